@@ -1,0 +1,17 @@
+pub mod Below
+pub mod Membership
+pub mod Pushing
+pub mod Flooring
+pub mod Tallies
+pub mod Sides
+pub mod Keeping
+pub mod Cells
+pub mod Mosts
+pub mod Placing
+pub mod Least
+pub mod Phases
+pub mod Fusing
+pub mod Flipping
+pub mod Numbering
+pub mod Pairing
+pub mod Merging

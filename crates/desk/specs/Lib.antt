@@ -1,0 +1,4 @@
+pub mod Media
+pub mod Replies
+pub mod Setups
+pub mod Scores

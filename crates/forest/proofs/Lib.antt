@@ -1,0 +1,10 @@
+pub mod Relinks
+pub mod Orders
+pub mod Marks
+pub mod Merges
+pub mod Classes
+pub mod Crossings
+pub mod Growths
+pub mod Climbs
+pub mod Severals
+pub mod Reaches

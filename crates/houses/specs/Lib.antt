@@ -1,0 +1,9 @@
+pub mod Records
+pub mod Rings
+pub mod RecordRules
+pub mod RingRules
+pub mod Sheets
+pub mod SheetRules
+pub mod SheetLaws
+pub mod Shifts
+pub mod ShiftRules

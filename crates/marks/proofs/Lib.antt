@@ -1,0 +1,4 @@
+pub mod Stamps
+pub mod Sheds
+pub mod Numberings
+pub mod Turns

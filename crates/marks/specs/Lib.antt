@@ -1,0 +1,2 @@
+pub mod Shedding
+pub mod State

@@ -1,0 +1,12 @@
+pub mod Cables
+pub mod Refusals
+pub mod Sets
+pub mod Lists
+pub mod Chains
+pub mod Laws
+pub mod Sheets
+pub mod Marks
+pub mod OwnSheets
+pub mod Figures
+pub mod MarkLaws
+pub mod SheetLaws

@@ -1,0 +1,4 @@
+pub mod Tally
+pub mod Rows
+pub mod Tables
+pub mod States

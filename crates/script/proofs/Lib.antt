@@ -1,0 +1,6 @@
+mod Words
+mod Verbs
+mod Numerals
+mod Arguments
+mod Orders
+mod Laws
