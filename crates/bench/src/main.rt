@@ -1,6 +1,8 @@
 // Closes a plan as often as its first argument says, and tells the sum of the marks; then asks the closed plan as often as its second
 // argument says, and tells the sums of the answers. A third argument, `strength`, `group` or `run`, asks that alone. The cables come
 // from standard input, a line `A B` for each: the first 256 are the house's, the others the tour's.
+#![tactic(auto)]
+
 use anyhow::anyhow;
 use forest::yardstick::Plain;
 use houses::house::House;

@@ -1,4 +1,6 @@
 // The console: reads a script from standard input, one command a line, and writes one line for each command.
+#![tactic(auto)]
+
 use desk::reply::Reply;
 use desk::score::Score;
 use desk::setup::Setup;

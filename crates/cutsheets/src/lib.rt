@@ -1,4 +1,6 @@
 // The cut sheet of a list of devices: sides without listed devices are shed from a core, cut after cut, until a cut parts the list.
+#![tactic(auto)]
+
 ghost use Rattle.std.specs.Prelude.{◌≡◌, ℕ, ◌<◌, true, not, List, length, Decides};
 ghost use Rattle.network.specs.Lists.{member, ListStrength};
 ghost use Rattle.network.specs.Sheets.{GoodSheet};

@@ -1,4 +1,6 @@
 // What a console does with the commands of a script: first the house is set up, then a plan over it is played.
+#![tactic(auto)]
+
 mod questions;
 pub mod reply;
 pub mod score;

@@ -1,4 +1,6 @@
 // A plan as it is meant to be used: open while cables are laid, closed while it is asked.
+#![tactic(auto)]
+
 ghost use Rattle.std.specs.Prelude.{◌≡◌, ◌+◌, ◌≤◌, true, length, Some, MatchOption};
 ghost use Rattle.std.specs.List.{slice_get};
 ghost use Rattle.network.specs.Lists.{Mark};

@@ -6,6 +6,8 @@
 //   runs       the poorest cable that a list needs
 //   verdicts   cut sheets judged
 //   rings      the cables of a ring
+#![tactic(auto)]
+
 pub mod cliques;
 pub mod lists;
 mod rigs;

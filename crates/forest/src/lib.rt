@@ -5,6 +5,8 @@
 //   bottleneck          the poorest cable that a set of devices needs
 //   reach               what the cables of a grade link
 //   several             whether a set has two devices or more
+#![tactic(auto)]
+
 pub mod bottleneck;
 mod crossing;
 pub mod forest;

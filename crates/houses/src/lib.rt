@@ -1,4 +1,6 @@
 // Houses: a theatre's own cables, told by a sheet of bytes, by a ring, or by a shift over another house.
+#![tactic(auto)]
+
 pub mod house;
 pub mod misread;
 pub mod records;

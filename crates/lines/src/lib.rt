@@ -1,4 +1,6 @@
 // Lines of text, written into a caller's buffer.
+#![tactic(auto)]
+
 ghost use Rattle.std.specs.Prelude.{◌≡◌, ◌+◌, ◌<◌, ◌≤◌, ltb, [], ◌∷◌, ◌++◌, length, drop, if◌then◌else◌, Ok, decimal, nat_lt};
 ghost use Rattle.network.specs.Refusals.{refuse};
 ghost use Rattle.network.specs.declared.refusal.Refusal.TheVariants.{BufferTooShort};

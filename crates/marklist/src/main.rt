@@ -1,5 +1,7 @@
 // Reads a sheet from standard input and writes a line for each cable: its place, its ends and its mark. A refused sheet
 // has one line: the number of its fault, and where it is.
+#![tactic(auto)]
+
 ghost use Rattle.std.specs.Prelude.{◌≤◌, length, IfOk};
 
 use houses::house::House;

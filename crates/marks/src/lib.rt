@@ -1,4 +1,6 @@
 // The marks of all cables: parts of the devices are split, cut after cut, until each is a single device.
+#![tactic(auto)]
+
 ghost use Rattle.std.specs.Prelude.{◌≡◌, ℕ, suc, ◌<◌, ◌≤◌, max, length, nat_eq};
 ghost use Rattle.network.specs.Cables.{LawfulCable, Lawful};
 ghost use Rattle.network.specs.Sets.{crosses};

@@ -1,4 +1,6 @@
 // Devices, cables and refusals, and what the strength of a set of devices is.
+#![tactic(auto)]
+
 ghost use Rattle.std.specs.Prelude.{◌≡◌};
 ghost use Rattle.network.specs.Cables.{above, fit_run};
 ghost use Rattle.network.specs.Laws.{OneStrength, NoneStronger, OneGroup, UnionTied, TiedHolds, StrengthParts};

@@ -4,6 +4,8 @@
 //   table, rows, marking    the cables of a closed plan with their marks, and how closing makes them
 //   list, questions         lists of devices: strength, group and run, from what strength, group and grading find
 //   sheets                  cut sheets: cut and judge, from cutting and judging
+#![tactic(auto)]
+
 mod buffer;
 mod cutting;
 mod grading;

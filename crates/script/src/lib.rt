@@ -1,4 +1,6 @@
 // The language of a console script: one command a line.
+#![tactic(auto)]
+
 ghost use Rattle.std.specs.Prelude.{◌≡◌, IfOk};
 ghost use Rattle.script.specs.Laws.{WordsAreRuns, OneCut};
 ghost use Rattle.script.specs.Readings.{told, reading};

@@ -1,5 +1,7 @@
 // Tells what the limits answer, and compares the marks of closed plans with a search through all sets of devices: on three fixed
 // rigs, and on random ones.
+#![tactic(auto)]
+
 mod generator;
 mod limits;
 mod sets;
