@@ -10,8 +10,8 @@ put-requires t c = omega (arith, decimal_nonempty c.args.n (omega arith))
 pub returns-then-n-lt10 : goal.returns-then-n-lt10
 returns-then-n-lt10 t c = wrote_as (sym (decimal_digit c.args.n c.if-n-lt10.true)) c.put.ensures
 
-pub put-number-last-at-requires : goal.put-number-last-at-requires
-put-number-last-at-requires t c = (omega arith, omega (arith, one_digit_more c.args.n c.if-n-lt10.false (omega arith)))
+pub put_number-last_at-requires : goal.put_number-last_at-requires
+put_number-last_at-requires t c = (omega arith, omega (arith, one_digit_more c.args.n c.if-n-lt10.false (omega arith)))
 
 pub put-requires-2 : goal.put-requires-2
 put-requires-2 t c = omega (arith, one_digit_more c.args.n c.if-n-lt10.false (omega arith))
@@ -19,4 +19,4 @@ put-requires-2 t c = omega (arith, one_digit_more c.args.n c.if-n-lt10.false (om
 pub returns : goal.returns
 returns t c =
     wrote_as (sym (decimal_step c.args.n c.if-n-lt10.false (omega arith)))
-    (wrote_both (omega arith) c.put-number-last-at.ensures c.put-2.ensures)
+    (wrote_both (omega arith) c.put_number-last_at.ensures c.put-2.ensures)

@@ -6,10 +6,10 @@ use Rattle.lines.proofs.mark_line.Goals as goal
 
 pub returns : goal.returns
 returns c =
-    let line : Wrote c.args.buffer.now c.put-field.new.buffer 0 c.put-field.result (mark_text c.args.place c.args.marked) =
+    let line : Wrote c.args.buffer.now c.put_field.new.buffer 0 c.put_field.result (mark_text c.args.place c.args.marked) =
     wrote_as (mark_fields c.args.place c.args.marked)
-    (c.put-field-a-at.ensures.wrote
-    then c.put-field-b-at.ensures.wrote
-    then c.put-field-mark-at.ensures.wrote
-    then c.put-field.ensures.wrote) in
+    (c.put_field-a_at.ensures.wrote
+    then c.put_field-b_at.ensures.wrote
+    then c.put_field-mark_at.ensures.wrote
+    then c.put_field.ensures.wrote) in
     record { answer = line_answer c.if-buffer-lt-ROOM.false line; after = line_after c.if-buffer-lt-ROOM.false line }

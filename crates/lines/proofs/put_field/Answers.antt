@@ -3,8 +3,8 @@ use Rattle.lines.proofs.Digits.{five_digits}
 use Rattle.lines.proofs.Writes.{wrote_both}
 use Rattle.lines.proofs.put_field.Goals as goal
 
-pub put-number-end-at-requires : goal.put-number-end-at-requires
-put-number-end-at-requires c = omega (arith, five_digits c.args.n (omega arith))
+pub put_number-end_at-requires : goal.put_number-end_at-requires
+put_number-end_at-requires c = omega (arith, five_digits c.args.n (omega arith))
 
 pub put-requires : goal.put-requires
 put-requires c = omega (arith, five_digits c.args.n (omega arith))
@@ -12,6 +12,6 @@ put-requires c = omega (arith, five_digits c.args.n (omega arith))
 pub returns : goal.returns
 returns c =
     record {
-      wrote = wrote_both (omega arith) c.put-number-end-at.ensures c.put.ensures;
+      wrote = wrote_both (omega arith) c.put_number-end_at.ensures c.put.ensures;
       short = omega (arith, five_digits c.args.n (omega arith));
     }

@@ -14,7 +14,7 @@ turn-requires g c =
     let l = c.loop-p in
     let cs = rig_cables r in
     let e = c.cables.ensures in
-    let sh = cut_shear cs l.part l.p (number l.floor l.p) c.in-Some.cut.crossings c.inside-of.result.flags (set_of c.in-Some.cut.side) c.inside-of.result.size c.inside-of.ensures c.in-Some.ensures.1 in
+    let sh = cut_shear cs l.part l.p (number l.floor l.p) c.in-Some.cut.crossings c.inside_of.result.flags (set_of c.in-Some.cut.side) c.inside_of.result.size c.inside_of.ensures c.in-Some.ensures.1 in
     let sh_m = subst (λ m. Shear cs (inside (number l.part) l.p) (number l.floor l.p) m (set_of c.in-Some.cut.side)) (sym c.max-m.ensures) sh in
     record {
       few = omega (arith, ap length e, length-take-le r.count r.cables (omega (arith, r.few, r.size)), r.few);
@@ -43,7 +43,7 @@ loop-p-preserved-in-Some g c =
 pub loop-p-preserved : goal.loop-p-preserved
 loop-p-preserved g c =
     let l = c.loop-p in
-    let lone = uncut_lone l.part l.p c.inside-of.result.flags c.inside-of.result.size c.inside-of.ensures c.in-None.ensures in
+    let lone = uncut_lone l.part l.p c.inside_of.result.flags c.inside_of.result.size c.inside_of.ensures c.in-None.ensures in
     (l.invariant.0, l.invariant.1, l.invariant.2, l.invariant.3, l.invariant.4, done_more (number l.part) l.p l.invariant.5 lone, omega arith)
 
 pub returns : goal.returns

@@ -10,5 +10,5 @@ use Rattle.figures.proofs.lists.doubled.Goals as goal
 pub returns : goal.returns
 unfolding numbers
 returns c = figure_tells two_between 4 (5 ∷ []) 2 (4 ∷ 5 ∷ []) (parts 1 ((4 ∷ []) ∷ (5 ∷ []) ∷ [])) refl refl refl refl
-    (closed_cables c.closed-over.result) (c.closed-over.ensures ∙ ap cables_of c.two_between.ensures)
+    (closed_cables c.closed_over.result) (c.closed_over.ensures ∙ ap cables_of c.two_between.ensures)
     c.ask.result c.ask.ensures.strength c.ask.ensures.group

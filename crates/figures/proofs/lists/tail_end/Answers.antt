@@ -10,5 +10,5 @@ use Rattle.figures.proofs.lists.tail_end.Goals as goal
 pub returns : goal.returns
 unfolding numbers
 returns c = figure_tells triangle_and_tail 3 [] 1 (0 ∷ 1 ∷ 2 ∷ 3 ∷ []) (parts 1 ((3 ∷ []) ∷ [])) refl refl refl refl
-    (closed_cables c.closed-over.result) (c.closed-over.ensures ∙ ap cables_of c.triangle_and_tail.ensures)
+    (closed_cables c.closed_over.result) (c.closed_over.ensures ∙ ap cables_of c.triangle_and_tail.ensures)
     c.ask.result c.ask.ensures.strength c.ask.ensures.group

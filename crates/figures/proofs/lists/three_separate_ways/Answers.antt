@@ -10,5 +10,5 @@ use Rattle.figures.proofs.lists.three_separate_ways.Goals as goal
 pub returns : goal.returns
 unfolding numbers
 returns c = figure_tells three_ways 0 (1 ∷ []) 2 (0 ∷ 1 ∷ 2 ∷ 3 ∷ 4 ∷ []) (parts 1 ((2 ∷ []) ∷ (3 ∷ []) ∷ (4 ∷ []) ∷ (0 ∷ []) ∷ (1 ∷ []) ∷ [])) refl refl refl refl
-    (closed_cables c.closed-over.result) (c.closed-over.ensures ∙ ap cables_of c.three-ways.ensures)
+    (closed_cables c.closed_over.result) (c.closed_over.ensures ∙ ap cables_of c.three_ways.ensures)
     c.ask.result c.ask.ensures.strength c.ask.ensures.group

@@ -14,5 +14,5 @@ alone = apart_by_test [] (5 ∷ []) (parts 1 ((5 ∷ []) ∷ [])) refl refl
 pub returns : goal.returns
 returns c = record {
   apart = alone;
-  answer = apart_told [] (5 ∷ []) alone refl c.strength.result (subst (λ cs. StrengthAnswer cs (5 ∷ []) c.strength.result) c.closed-over.ensures c.strength.ensures);
+  answer = apart_told [] (5 ∷ []) alone refl c.strength.result (subst (λ cs. StrengthAnswer cs (5 ∷ []) c.strength.result) c.closed_over.ensures c.strength.ensures);
 }

@@ -12,6 +12,6 @@ pub returns : goal.returns
 returns c = record {
   figure = metres_needed;
   answer = run_told length_laws by_length example_sheet (10 ∷ 13 ∷ []) (metres 20) metres_needed refl refl
-      (closed_cables c.closed-over.result) (c.closed-over.ensures ∙ ap cables_of c.example_sheet.ensures)
+      (closed_cables c.closed_over.result) (c.closed_over.ensures ∙ ap cables_of c.example_sheet.ensures)
       c.run.result c.run.ensures;
 }

@@ -11,8 +11,8 @@ use Rattle.figures.proofs.verdicts.refused_at_none.Goals as goal
 -- one cable leads from part 0 to part 1
 pub returns : goal.returns
 returns c =
-    let cs = closed_cables c.closed-over.result in
-    let present : cs ≡ example_sheet = c.closed-over.ensures ∙ ap cables_of c.example_sheet.ensures in
+    let cs = closed_cables c.closed_over.result in
+    let present : cs ≡ example_sheet = c.closed_over.ensures ∙ ap cables_of c.example_sheet.ensures in
     let judged : Judges cs (20 ∷ []) 0 twenty_alone c.judge.result = subst (λ bs. Judges cs (20 ∷ []) 0 bs c.judge.result) c.twenty_alone.ensures c.judge.ensures in
     record {
       figure = verdict example_sheet (20 ∷ []) 0 twenty_alone c.judge.result cs present judged refl;

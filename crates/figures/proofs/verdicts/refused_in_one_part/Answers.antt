@@ -17,8 +17,8 @@ whole = ⊎_elim
 
 pub returns : goal.returns
 returns c =
-    let cs = closed_cables c.closed-over.result in
-    let present : cs ≡ example_sheet = c.closed-over.ensures ∙ ap cables_of c.example_sheet.ensures in
+    let cs = closed_cables c.closed_over.result in
+    let present : cs ≡ example_sheet = c.closed_over.ensures ∙ ap cables_of c.example_sheet.ensures in
     let judged : Judges cs (20 ∷ []) 1 one_part c.judge.result = c.judge.ensures in
     record {
       figure = verdict example_sheet (20 ∷ []) 1 one_part c.judge.result cs present judged refl;

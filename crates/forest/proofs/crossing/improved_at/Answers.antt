@@ -2,32 +2,32 @@ use Rattle.std.proofs.Common.{◌+◌, ap}
 use Rattle.forest.proofs.Crossings.{seen_low, none_past, best_same, best_passes, best_improves}
 use Rattle.forest.proofs.crossing.improved_at.Goals as goal
 
-pub returns-in-err-found : goal.returns-in-err-found
-returns-in-err-found g c =
+pub returns-in_err-found : goal.returns-in_err-found
+returns-in_err-found g c =
     let s = c.args.edges.now in
     let cs = g.E.Graded.cables s in
-    rw c.from-residual.ensures (best_same g.met.E.Grade.Grade.order cs (g.E.Graded.grade s) c.args.labels.now c.args.place
-    (λ d st. absurd (none_past cs c.args.place d c.in-err-found.ensures st))
+    rw c.from_residual.ensures (best_same g.met.E.Grade.Grade.order cs (g.E.Graded.grade s) c.args.labels.now c.args.place
+    (λ d st. absurd (none_past cs c.args.place d c.in_err-found.ensures st))
     c.args.best c.requires)
 
 pub bounds-labels-found : goal.bounds-labels-found
-bounds-labels-found g c = (seen_low c.in-ok-found.found (g.E.Graded.lawful c.args.edges.now) c.in-ok-found.ensures.1).0
+bounds-labels-found g c = (seen_low c.in_ok-found.found (g.E.Graded.lawful c.args.edges.now) c.in_ok-found.ensures.1).0
 
 pub bounds-labels-found-2 : goal.bounds-labels-found-2
-bounds-labels-found-2 g c = (seen_low c.in-ok-found.found (g.E.Graded.lawful c.args.edges.now) c.in-ok-found.ensures.1).1
+bounds-labels-found-2 g c = (seen_low c.in_ok-found.found (g.E.Graded.lawful c.args.edges.now) c.in_ok-found.ensures.1).1
 
 pub returns-then-labels-found : goal.returns-then-labels-found
 returns-then-labels-found g c =
     let s = c.args.edges.now in
     best_passes g.met.E.Grade.Grade.order (g.E.Graded.cables s) (g.E.Graded.grade s) c.args.labels.now c.args.place
-    c.in-ok-found.found c.in-ok-found.ensures.0 c.in-ok-found.ensures.1
+    c.in_ok-found.found c.in_ok-found.ensures.0 c.in_ok-found.ensures.1
     c.args.best c.reached.result c.reached.ensures c.requires c.if-labels-found.true
 
 pub returns : goal.returns
 returns g c =
     let s = c.args.edges.now in (
       best_improves g.met.E.Grade.Grade.order (g.E.Graded.cables s) (g.E.Graded.grade s) c.args.labels.now c.args.place
-          c.in-ok-found.found c.in-ok-found.ensures.0 c.in-ok-found.ensures.1
+          c.in_ok-found.found c.in_ok-found.ensures.0 c.in_ok-found.ensures.1
           c.args.best c.reached.result c.reached.ensures c.requires c.if-labels-found.false,
-      ap (λ n. n + 1) c.in-ok-found.ensures.0,
+      ap (λ n. n + 1) c.in_ok-found.ensures.0,
     )

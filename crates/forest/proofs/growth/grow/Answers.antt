@@ -7,8 +7,8 @@ use Rattle.forest.proofs.growth.grow.Goals as goal
 pub loop-best-init : goal.loop-best-init
 loop-best-init g c =
     let s = c.args.edges.now in
-    grown_none g.Grade-as-Grade.over (g.E.Graded.cables s) (g.E.Graded.grade s) (place_of c.bare-forest.result) c.bare-forest.result.count c.own-labels-labels.result
-    (g.E.Graded.lawful s) c.bare-forest.ensures c.own-labels-labels.ensures.size c.own-labels-labels.ensures.own
+    grown_none g.Grade-as-Grade.over (g.E.Graded.cables s) (g.E.Graded.grade s) (place_of c.bare-forest.result) c.bare-forest.result.count c.own_labels-labels.result
+    (g.E.Graded.lawful s) c.bare-forest.ensures c.own_labels-labels.ensures.size c.own_labels-labels.ensures.own
 
 pub merge-requires : goal.merge-requires
 merge-requires g c = seen_low c.in-Some.best (g.E.Graded.lawful c.args.edges.now) c.in-Some.ensures.seen
@@ -35,4 +35,4 @@ pub returns : goal.returns
 returns g c =
     let s = c.args.edges.now in
     grown_all g.met.E.Grade.Grade.order (g.E.Graded.cables s) (g.E.Graded.grade s) (g.E.Graded.lawful s) (place_of c.loop-best.forest) c.loop-best.forest.count c.loop-best.labels c.loop-best.invariant
-    c.in-default.ensures
+    c.in_default.ensures

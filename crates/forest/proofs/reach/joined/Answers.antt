@@ -10,4 +10,4 @@ returns-then-from-gt127 g c =
     c.args.from d c.if-from-gt127.true h (set_of c.none.result d) (c.none.ensures d)
 
 pub returns : goal.returns
-returns g c = λ d h. labelled_linked c.labels-of-labels.ensures c.args.from d (omega (arith, c.if-from-gt127.false)) h (set_of c.labelled.result d) (c.labelled.ensures d h)
+returns g c = λ d h. labelled_linked c.labels_of-labels.ensures c.args.from d (omega (arith, c.if-from-gt127.false)) h (set_of c.labelled.result d) (c.labelled.ensures d h)

@@ -5,7 +5,7 @@ use Rattle.forest.proofs.reach.labels_of.Goals as goal
 pub loop-place-init : goal.loop-place-init
 loop-place-init g c =
     let s = c.args.edges.now in
-    taken_none g.Grade-as-Grade.over (g.E.Graded.cables s) (g.E.Graded.grade s) c.args.floor c.own-labels-labels.result c.own-labels-labels.ensures.size c.own-labels-labels.ensures.own
+    taken_none g.Grade-as-Grade.over (g.E.Graded.cables s) (g.E.Graded.grade s) c.args.floor c.own_labels-labels.result c.own_labels-labels.ensures.size c.own_labels-labels.ensures.own
 
 pub returns : goal.returns
 returns g c =

@@ -17,7 +17,7 @@ returns-else-reaches g c =
     taken_poor g.Grade-as-Grade.over (g.E.Graded.cables s) (g.E.Graded.grade s) c.args.floor c.args.labels.now c.args.place c.requires
     c.in-Some.found c.in-Some.ensures.0 c.in-Some.ensures.1 c.if-reaches.ensures
 
-pub returns-in-default : goal.returns-in-default
-returns-in-default g c =
+pub returns-in_default : goal.returns-in_default
+returns-in_default g c =
     let s = c.args.edges.now in
-    taken_past g.Grade-as-Grade.over (g.E.Graded.cables s) (g.E.Graded.grade s) c.args.floor c.args.labels.now c.args.place c.requires c.in-default.ensures
+    taken_past g.Grade-as-Grade.over (g.E.Graded.cables s) (g.E.Graded.grade s) c.args.floor c.args.labels.now c.args.place c.requires c.in_default.ensures

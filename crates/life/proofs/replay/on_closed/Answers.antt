@@ -14,27 +14,27 @@ pub returns-in-Strength : goal.returns-in-Strength
 returns-in-Strength g c =
     let cs = closed_cables c.args.plan in let r = c.strength-answer.result in
     step_of g.H.House.cables g.Grade.Grade.over g.Y.Yardstick.graded c.in-Strength.is
-    (strengths {c = c.args.plan} _ _ (subst (λ l. StrengthAnswer cs l r) c.as-slice.ensures.value c.strength-answer.ensures))
+    (strengths {c = c.args.plan} _ _ (subst (λ l. StrengthAnswer cs l r) c.as_slice.ensures.value c.strength-answer.ensures))
 
-pub returns-in-ok-written : goal.returns-in-ok-written
-returns-in-ok-written g c =
-    let cs = closed_cables c.args.plan in let r = c.group-into-answer.result in
-    let after = vec_items c.group-into-answer.new.buffer in
+pub returns-in_ok-written : goal.returns-in_ok-written
+returns-in_ok-written g c =
+    let cs = closed_cables c.args.plan in let r = c.group_into-answer.result in
+    let after = vec_items c.group_into-answer.new.buffer in
     let list = vec_items c.in-Group.list in let before = vec_items c.in-Group.buffer in
-    let copied : vec_items c.in-ok-written.written ≡ before
-    = ◌∙◌ {b = c.as-slice-in-Group.result.now} c.in-ok-written.ensures.items c.as-slice-in-Group.ensures.value in
+    let copied : vec_items c.in_ok-written.written ≡ before
+    = ◌∙◌ {b = c.as_slice-in-Group.result.now} c.in_ok-written.ensures.items c.as_slice-in-Group.ensures.value in
     step_of g.H.House.cables g.Grade.Grade.over g.Y.Yardstick.graded c.in-Group.is
     (groups {c = c.args.plan} list before r after
-    (subst (λ l. GroupAnswer cs l before r after) c.as-slice-in-Group-2.ensures.value
-    (subst (λ b. GroupAnswer cs c.as-slice-in-Group-2.result.now b r after) copied c.group-into-answer.ensures)))
+    (subst (λ l. GroupAnswer cs l before r after) c.as_slice-in-Group-2.ensures.value
+    (subst (λ b. GroupAnswer cs c.as_slice-in-Group-2.result.now b r after) copied c.group_into-answer.ensures)))
 
 pub returns-in-Run : goal.returns-in-Run
 returns-in-Run g c =
     let cs = closed_cables c.args.plan in let r = c.run-answer.result in let over = g.Grade.Grade.over in
     let graded = g.Y.Yardstick.graded c.in-Run.yardstick in
     step_of g.H.House.cables over g.Y.Yardstick.graded c.in-Run.is
-    (runs {c = c.args.plan} _ _ _ (subst (λ l. RunAnswer over graded cs l r) c.as-slice-in-Run.ensures.value c.run-answer.ensures))
+    (runs {c = c.args.plan} _ _ _ (subst (λ l. RunAnswer over graded cs l r) c.as_slice-in-Run.ensures.value c.run-answer.ensures))
 
-pub returns-in-default : goal.returns-in-default
-returns-in-default g c =
-    let r = c.in-default in idles _ (not_closed c.args.call.now r.not-Reopen r.not-Strength r.not-Group r.not-Run)
+pub returns-in_default : goal.returns-in_default
+returns-in_default g c =
+    let r = c.in_default in idles _ (not_closed c.args.call.now r.not-Reopen r.not-Strength r.not-Group r.not-Run)

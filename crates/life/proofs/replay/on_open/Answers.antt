@@ -15,5 +15,5 @@ pub returns-in-Close : goal.returns-in-Close
 returns-in-Close g c =
     step_of g.H.House.cables g.Grade.Grade.over g.Y.Yardstick.graded c.in-Close.is (closes c.close.ensures)
 
-pub returns-in-default : goal.returns-in-default
-returns-in-default g c = let r = c.in-default in idles _ (not_open c.args.call.now r.not-Lay r.not-Lift r.not-Close)
+pub returns-in_default : goal.returns-in_default
+returns-in_default g c = let r = c.in_default in idles _ (not_open c.args.call.now r.not-Lay r.not-Lift r.not-Close)

@@ -16,8 +16,8 @@ pub loop-call-preserved : goal.loop-call-preserved
 loop-call-preserved g c =
     let l = c.loop-call in
     come_more g.H.House.cables g.Grade.Grade.over g.Y.Yardstick.graded (plan.Open c.begin.result) c.args.script.now l.call-index (vec_items l.answers) l.plan
-    c.call-item.result c.in-ok-after.answer (vec_items c.push.new.self) c.in-ok-after.after
-    c.loop-call-test.true c.call-item.is c.in-ok-after.ensures c.in-ok-push.ensures.items l.invariant
+    c.call-item.result c.in_ok-after.answer (vec_items c.push.new.self) c.in_ok-after.after
+    c.loop-call-test.true c.call-item.is c.in_ok-after.ensures c.in_ok-push.ensures.items l.invariant
 
 pub returns : goal.returns
 returns g c =
@@ -32,9 +32,9 @@ returns g c =
       life = (p, (c.begin.ensures, life));
     }
 
-pub returns-in-err-after : goal.returns-in-err-after
-returns-in-err-after g c = let p = err_from_is_err_and c.from-residual.result c.from-residual.ensures.1 in rw p.1 tt
+pub returns-in_err-after : goal.returns-in_err-after
+returns-in_err-after g c = let p = err_from_is_err_and c.from_residual.result c.from_residual.ensures.1 in rw p.1 tt
 
-pub returns-in-err-push : goal.returns-in-err-push
-returns-in-err-push g c =
-    let p = err_from_is_err_and c.from-residual-in-err-push.result c.from-residual-in-err-push.ensures.1 in rw p.1 tt
+pub returns-in_err-push : goal.returns-in_err-push
+returns-in_err-push g c =
+    let p = err_from_is_err_and c.from_residual-in_err-push.result c.from_residual-in_err-push.ensures.1 in rw p.1 tt

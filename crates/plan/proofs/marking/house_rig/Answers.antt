@@ -6,7 +6,7 @@ use Rattle.plan.proofs.marking.house_rig.Goals as goal
 
 pub unreachable-requires : goal.unreachable-requires
 unreachable-requires g c =
-    nth_some (g.H.House.cables c.args.house.now) c.loop-place.place (sym c.in-default.ensures) (omega (arith, c.count-place-end.ensures, c.loop-place-test.true))
+    nth_some (g.H.House.cables c.args.house.now) c.loop-place.place (sym c.in_default.ensures) (omega (arith, c.count-place-end.ensures, c.loop-place-test.true))
 
 pub loop-place-preserved : goal.loop-place-preserved
 loop-place-preserved g c =

@@ -9,6 +9,6 @@ use Rattle.plan.proofs.marking.marked.Goals as goal
 pub returns : goal.returns
 returns g c =
     ap cables_in c.tabulate.ensures
-    ∙ cables_rows (number c.mark-all-marks.result) (rig_cables c.add-tour.new.rig)
-    ∙ c.add-tour.ensures
-    ∙ ap (λ l. l ++ tour_cables (laid c.args.tour.now)) c.house-rig-rig.ensures
+    ∙ cables_rows (number c.mark_all-marks.result) (rig_cables c.add_tour.new.rig)
+    ∙ c.add_tour.ensures
+    ∙ ap (λ l. l ++ tour_cables (laid c.args.tour.now)) c.house_rig-rig.ensures

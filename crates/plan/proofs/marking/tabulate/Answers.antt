@@ -21,8 +21,8 @@ loop-i-preserved c =
     let few = length-take-le r.count r.cables (omega (arith, r.few, r.size)) in
     (length-set l.rows l.i row ∙ l.invariant.0, rows_more m (rig_cables r) l.rows l.i row low (omega (arith, l.invariant.0, few, r.few)) same l.invariant.1)
 
-pub invariant-of-result : goal.invariant-of-result
-invariant-of-result c =
+pub invariant_of-result : goal.invariant_of-result
+invariant_of-result c =
     let r = c.args.rig.now in
     let m = number c.args.marks.now in
     let n = ap length c.cables-cables.ensures in

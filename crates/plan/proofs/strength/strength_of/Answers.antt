@@ -7,12 +7,12 @@ use Rattle.plan.proofs.strength.strength_of.Goals as goal
 
 pub returns-in-Some : goal.returns-in-Some
 returns-in-Some c l x names i =
-    several_strength c.args.table.now c.args.devices.now l names c.joining-mark.result c.in-Some.ensures.0 c.joining-mark.ensures
+    several_strength c.args.table.now c.args.devices.now l names c.joining_mark.result c.in-Some.ensures.0 c.joining_mark.ensures
 
 pub returns-in-Some-lowest : goal.returns-in-Some-lowest
 returns-in-Some-lowest c l x names i =
     let t = c.args.table.now in
-    lone_strength t c.args.devices.now l names c.highest-mark.result c.in-Some-lowest.device c.in-default.ensures c.in-Some-lowest.ensures.1 c.highest-mark.ensures
+    lone_strength t c.args.devices.now l names c.highest_mark.result c.in-Some-lowest.device c.in_default.ensures c.in-Some-lowest.ensures.1 c.highest_mark.ensures
 
 pub returns-in-None : goal.returns-in-None
 returns-in-None c l x names i =

@@ -14,14 +14,14 @@ loop-index-init c =
 
 pub loop-index-preserved : goal.loop-index-preserved
 loop-index-preserved c =
-    let pushed = chosen _ _ _ _ c.push.ensures.items (ap is_ok c.in-ok-push.was) in
-    one_read (map text c.args.words.now) c.args.place (c.loop-index.index + 1) _ c.loop-index.invariant (omega arith) (omega (arith, length-map c.args.words.now text)) _ _ c.in-ok-device.ensures pushed
+    let pushed = chosen _ _ _ _ c.push.ensures.items (ap is_ok c.in_ok-push.was) in
+    one_read (map text c.args.words.now) c.args.place (c.loop-index.index + 1) _ c.loop-index.invariant (omega arith) (omega (arith, length-map c.args.words.now text)) _ _ c.in_ok-device.ensures pushed
 
-pub returns-in-err-device : goal.returns-in-err-device
-returns-in-err-device c =
-    stops_through same vec_items _ _ _ _ c.from-residual.ensures.1
+pub returns-in_err-device : goal.returns-in_err-device
+returns-in_err-device c =
+    stops_through same vec_items _ _ _ _ c.from_residual.ensures.1
     (stop_read (map text c.args.words.now) c.args.place (c.loop-index.index + 1) _ c.loop-index.invariant (omega arith) (omega (arith, length-map c.args.words.now text)))
-    c.in-err-device.ensures
+    c.in_err-device.ensures
 
 pub returns : goal.returns
 returns c = all_read (map text c.args.words.now) c.args.place (c.loop-index.index + 1) _ c.loop-index.invariant (omega (arith, length-map c.args.words.now text))

@@ -4,7 +4,7 @@ use Rattle.script.proofs.Arguments.{stops, given_ok}
 use Rattle.script.proofs.Verbs.{other}
 use Rattle.script.proofs.argument.medium_at.Goals as goal
 
-pub returns-in-default : goal.returns-in-default
-returns-in-default c =
+pub returns-in_default : goal.returns-in_default
+returns-in_default c =
     stops same _ _ _ _ c.blame.ensures
-    (given_ok _ _ _ c.in-ok-word.ensures ∙ ap (blamed c.args.place) (other _ _ _ _ c.in-default.not-copper ∙ other _ _ _ _ c.in-default.not-fibre))
+    (given_ok _ _ _ c.in_ok-word.ensures ∙ ap (blamed c.args.place) (other _ _ _ _ c.in_default.not-copper ∙ other _ _ _ _ c.in_default.not-fibre))

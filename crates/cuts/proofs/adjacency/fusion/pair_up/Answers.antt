@@ -2,31 +2,31 @@ use Rattle.std.proofs.Common.{◌<◌, get_or, sym, ◌∙◌, arith}
 use Rattle.cuts.proofs.adjacency.fusion.pair_up.Goals as goal
 use Rattle.std.proofs.lemmas.List.Sums.{count_by-le-length}
 use Rattle.cuts.specs.Links.{label, joins}
-use Rattle.cuts.proofs.adjacency.fusion.pair_up.Goals.{then-may-pair, else-may-pair}
+use Rattle.cuts.proofs.adjacency.fusion.pair_up.Goals.{then-may_pair, else-may_pair}
 use Rattle.cuts.proofs.Pairing.{pairing_none, pairing_more, pairing_at, pairing_all}
 
 pub loop-l-init : goal.loop-l-init
 loop-l-init c = pairing_none _ _ _ _ _ c.requires.1 c.identity-to.ensures.len c.identity-to.ensures.same
 
-low_a : (c : goal.Joined-may-pair) → get_or c.args.labels.now c.l-item.result.a 0 < 128
+low_a : (c : goal.Joined-may_pair) → get_or c.args.labels.now c.l-item.result.a 0 < 128
 low_a c = omega (arith, c.requires.2 _ c.l-item.result.low, c.requires.1)
 
-low_b : (c : goal.Joined-may-pair) → get_or c.args.labels.now c.l-item.result.b 0 < 128
+low_b : (c : goal.Joined-may_pair) → get_or c.args.labels.now c.l-item.result.b 0 < 128
 low_b c = omega (arith, c.requires.2 _ c.l-item.result.high, c.requires.1)
 
 pub loop-l-preserved : goal.loop-l-preserved
 loop-l-preserved c =
-    elim c.if-may-pair.branch [
-      | then-may-pair w ↦ pairing_at _ _ _ _ _ _ _ _ w.to-is w.used-is
+    elim c.if-may_pair.branch [
+      | then-may_pair w ↦ pairing_at _ _ _ _ _ _ _ _ w.to-is w.used-is
           (pairing_more _ _ _ _ _ _ c.args.m.now c.args.degrees.now (get_or c.args.labels.now c.l-item.result.a 0) (get_or c.args.labels.now c.l-item.result.b 0)
           c.requires.1 c.requires.2 (c.requires.2 _ c.l-item.result.low) (c.requires.2 _ c.l-item.result.high)
           (c.requires.3 _ (low_a c)) (c.requires.4 _ (c.requires.2 _ c.l-item.result.low))
-          (c.requires.5 _ _ (low_a c) (low_b c)) (sym c.may-pair.ensures ∙ w.if-may-pair.true) c.loop-l.invariant)
-      | else-may-pair w ↦ pairing_at _ _ _ _ _ _ _ _ w.to-is w.used-is c.loop-l.invariant
+          (c.requires.5 _ _ (low_a c) (low_b c)) (sym c.may_pair.ensures ∙ w.if-may_pair.true) c.loop-l.invariant)
+      | else-may_pair w ↦ pairing_at _ _ _ _ _ _ _ _ w.to-is w.used-is c.loop-l.invariant
     ]
 
-pub may-pair-requires : goal.may-pair-requires
-may-pair-requires c = (
+pub may_pair-requires : goal.may_pair-requires
+may_pair-requires c = (
   omega (arith, c.requires.2 _ c.l-item.result.low, c.requires.1),
   omega (arith, c.requires.2 _ c.l-item.result.high, c.requires.1),
   omega (

@@ -6,7 +6,7 @@ use Rattle.cuts.specs.Orders.{toward, latest}
 use Rattle.cuts.proofs.Placing.{placing_none, placing_more, placing_all, room, cleared}
 
 pub loop-v-init : goal.loop-v-init
-loop-v-init c = placing_none (label c.args.labels.now) c.args.links.now _ _ c.flags-below-left.ensures.len c.flags-below-left.ensures.set c.flags-below-left.ensures.many c.requires.2
+loop-v-init c = placing_none (label c.args.labels.now) c.args.links.now _ _ c.flags_below-left.ensures.len c.flags_below-left.ensures.set c.flags_below-left.ensures.many c.requires.2
 
 pub bounds-places-len : goal.bounds-places-len
 bounds-places-len c = (room _ _ _ _ _ _ _ _ c.requires.0 c.loop-v.invariant _ c.in-Some.ensures.0 c.in-Some.ensures.1).0
@@ -14,8 +14,8 @@ bounds-places-len c = (room _ _ _ _ _ _ _ _ c.requires.0 c.loop-v.invariant _ c.
 pub bounds-weights-len : goal.bounds-weights-len
 bounds-weights-len c = (room _ _ _ _ _ _ _ _ c.requires.0 c.loop-v.invariant _ c.in-Some.ensures.0 c.in-Some.ensures.1).0
 
-pub add-row-requires : goal.add-row-requires
-add-row-requires c = (
+pub add_row-requires : goal.add_row-requires
+add_row-requires c = (
   omega (arith, c.in-Some.ensures.0, c.requires.2),
   (λ v h. omega (arith, c.requires.1 c.in-Some.v v (omega (arith, c.in-Some.ensures.0, c.requires.2)) h, count_by-le-length (joins (label c.args.labels.now) c.in-Some.v v) c.args.links.now, c.requires.0)),
   λ v h. cleared c.loop-v.w c.in-Some.v v 4096 (omega (arith, c.in-Some.ensures.0, c.requires.2, c.loop-v.invariant.long_w))
@@ -28,7 +28,7 @@ loop-v-smaller c = let r = room _ _ _ _ _ _ _ _ c.requires.0 c.loop-v.invariant 
 pub loop-v-preserved : goal.loop-v-preserved
 loop-v-preserved c =
     placing_more _ _ _ _ _ _ _ _ c.requires.0 c.loop-v.invariant _ _ _ c.in-Some.ensures.0 c.in-Some.ensures.1 c.in-Some.ensures.2 (omega (arith, c.in-Some.ensures.1))
-    (λ d h. c.add-row.ensures d h ∙ ap (λ z. get_or (set c.loop-v.w c.in-Some.v 0) d 0 + z) (c.requires.1 c.in-Some.v d (omega (arith, c.in-Some.ensures.0, c.requires.2)) h)) c.add-row.array_long
+    (λ d h. c.add_row.ensures d h ∙ ap (λ z. get_or (set c.loop-v.w c.in-Some.v 0) d 0 + z) (c.requires.1 c.in-Some.v d (omega (arith, c.in-Some.ensures.0, c.requires.2)) h)) c.add_row.array_long
 
 pub returns : goal.returns
-returns c = placing_all _ _ _ _ _ _ _ _ c.requires.0 c.loop-v.invariant c.in-default.ensures
+returns c = placing_all _ _ _ _ _ _ _ _ c.requires.0 c.loop-v.invariant c.in_default.ensures

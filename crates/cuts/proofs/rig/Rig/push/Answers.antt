@@ -3,8 +3,8 @@ use Rattle.std.proofs.lemmas.List.{length-set, take_more_set}
 use Rattle.cuts.proofs.Pushing.{lawful_more, length_of}
 use Rattle.cuts.proofs.rig.Rig.push.Goals as goal
 
-pub invariant-of-self : goal.invariant-of-self
-invariant-of-self c =
+pub invariant_of-self : goal.invariant_of-self
+invariant_of-self c =
     let may = c.if-admits.ensures.0 refl in (
       omega arith,
       (length-set _ _ _ ∙ c.args.self.now.size, (lawful_more _ _ c.args.self.now.size c.args.cable may.0 c.args.self.now.lawful may.1, tt)),

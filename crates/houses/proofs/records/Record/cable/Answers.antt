@@ -4,17 +4,17 @@ use Rattle.houses.specs.Records.{link}
 use Rattle.houses.specs.declared.records.Record.{Record}
 use Rattle.houses.proofs.records.Record.cable.Goals as goal
 
-pub overflow-add-a : goal.overflow-add-a
-overflow-add-a c =
+pub overflow_add-a : goal.overflow_add-a
+overflow_add-a c =
     let h = subst (λ r. LawfulCable (link r c.args.place)) c.in-Chain.is (c.requires.sound.1 c.args.place c.requires.within) in
     omega arith
 
-pub overflow-add-result : goal.overflow-add-result
-overflow-add-result c =
+pub overflow_add-result : goal.overflow_add-result
+overflow_add-result c =
     let h = subst (λ r. LawfulCable (link r c.args.place)) c.in-Chain.is (c.requires.sound.1 c.args.place c.requires.within) in
     omega arith
 
-pub overflow-add-result-in-Star : goal.overflow-add-result-in-Star
-overflow-add-result-in-Star c =
+pub overflow_add-result-in-Star : goal.overflow_add-result-in-Star
+overflow_add-result-in-Star c =
     let h = subst (λ r. LawfulCable (link r c.args.place)) c.in-Star.is (c.requires.sound.1 c.args.place c.requires.within) in
     omega arith

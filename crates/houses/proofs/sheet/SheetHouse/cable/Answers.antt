@@ -7,11 +7,11 @@ use Rattle.houses.specs.Sheets.{read, cables_of}
 use Rattle.houses.proofs.Reading.{past, read_first, read_fine, nth_first, nth_later}
 use Rattle.houses.proofs.sheet.SheetHouse.cable.Goals as goal
 
-pub returns-in-default : goal.returns-in-default
-returns-in-default c =
+pub returns-in_default : goal.returns-in_default
+returns-in_default c =
     let l = c.loop-left in
     let h : 0 < length l.left.now = search rules in
-    absurd (read_fine l.invariant.0 l.invariant.1 l.left.now l.invariant.2 c.in-default.field-0 h l.invariant.3 c.in-default.ensures)
+    absurd (read_fine l.invariant.0 l.invariant.1 l.left.now l.invariant.2 c.in_default.field-0 h l.invariant.3 c.in_default.ensures)
 
 pub cable-requires : goal.cable-requires
 cable-requires c = record { within = omega arith; sound = (front_sound c.loop-left.left.now c.in-Ok.found c.in-Ok.ensures.0).0 }

@@ -11,16 +11,16 @@ use Rattle.plan.proofs.Checking.{listed_one, names_devices, buffer_short, refuse
 use Rattle.plan.proofs.CutAnswers.{cut_answer, cut_accepted, refused_accepted}
 use Rattle.plan.proofs.plan.Closed.cut.Goals as goal
 
-pub returns-in-err-devices : goal.returns-in-err-devices
-returns-in-err-devices g c =
+pub returns-in_err-devices : goal.returns-in_err-devices
+returns-in_err-devices g c =
     let l = c.args.list.now in
     let b = c.args.buffer.now in
-    let e = c.in-err-devices.field-0.0 in
-    let r = c.from-residual.result in
-    let exit = c.from-residual.ensures.1 in
+    let e = c.in_err-devices.field-0.0 in
+    let r = c.from_residual.result in
+    let exit = c.from_residual.ensures.1 in
     record {
       answer = record {
-        answer = refused_gives l (refuse BufferTooShort (ltb (length b) 128) (Ok tt)) (CutIs (closed_cables c.args.self.now) l b) e r exit c.in-err-devices.ensures;
+        answer = refused_gives l (refuse BufferTooShort (ltb (length b) 128) (Ok tt)) (CutIs (closed_cables c.args.self.now) l b) e r exit c.in_err-devices.ensures;
         buffer = refused_writes e r b exit;
       };
       accepted = refused_accepted (closed_cables c.args.self.now) l b e r exit;
@@ -28,26 +28,26 @@ returns-in-err-devices g c =
 
 pub returns-then-buffer-lt128 : goal.returns-then-buffer-lt128
 returns-then-buffer-lt128 g c = record {
-  answer = record { answer = buffer_short c.args.list.now (length c.args.buffer.now) c.in-ok-devices.ensures.0 c.if-buffer-lt128.true; buffer = refl };
+  answer = record { answer = buffer_short c.args.list.now (length c.args.buffer.now) c.in_ok-devices.ensures.0 c.if-buffer-lt128.true; buffer = refl };
   accepted = tt;
 }
 
-pub rig-of-requires : goal.rig-of-requires
-rig-of-requires g c = record { few = c.rows.ensures.few; lawful = c.rows.ensures.lawful }
+pub rig_of-requires : goal.rig_of-requires
+rig_of-requires g c = record { few = c.rows.ensures.few; lawful = c.rows.ensures.lawful }
 
 pub returns : goal.returns
 returns g c =
     let s = c.args.self.now in
     let l = c.args.list.now in
-    let fit = c.in-ok-devices.ensures in
-    let sheet = c.own-sheet-sheet.result in
+    let fit = c.in_ok-devices.ensures in
+    let sheet = c.own_sheet-sheet.result in
     let x = listed_one l fit.0 in
-    let same = c.rig-of.ensures ∙ ap cables_in c.rows.ensures.rows in
-    let strength = subst (λ cs. ListStrength cs l sheet.strength) same (c.own-sheet-sheet.ensures.strength l fit.1 x.0 x.1) in
-    let good = subst (λ cs. GoodSheet cs l sheet.strength (part_of sheet.parts)) same (c.own-sheet-sheet.ensures.good l fit.1 x.0 x.1) in
-    let devices = names_devices c.in-ok-devices.devices l fit.1 in
-    let w = c.write-first.ensures in
+    let same = c.rig_of.ensures ∙ ap cables_in c.rows.ensures.rows in
+    let strength = subst (λ cs. ListStrength cs l sheet.strength) same (c.own_sheet-sheet.ensures.strength l fit.1 x.0 x.1) in
+    let good = subst (λ cs. GoodSheet cs l sheet.strength (part_of sheet.parts)) same (c.own_sheet-sheet.ensures.good l fit.1 x.0 x.1) in
+    let devices = names_devices c.in_ok-devices.devices l fit.1 in
+    let w = c.write_first.ensures in
     record {
-      answer = cut_answer (closed_cables s) l sheet.strength c.args.buffer.now c.write-first.new.buffer sheet.parts s.table.lawful devices fit.0 c.if-buffer-lt128.false c.write-first.auto.buffer w.first w.later strength c.own-sheet-sheet.ensures.low good;
-      accepted = cut_accepted (closed_cables s) l sheet.strength c.args.buffer.now c.write-first.new.buffer sheet.parts s.table.lawful devices fit.0 c.if-buffer-lt128.false c.write-first.auto.buffer w.first w.later strength c.own-sheet-sheet.ensures.low good;
+      answer = cut_answer (closed_cables s) l sheet.strength c.args.buffer.now c.write_first.new.buffer sheet.parts s.table.lawful devices fit.0 c.if-buffer-lt128.false c.write_first.auto.buffer w.first w.later strength c.own_sheet-sheet.ensures.low good;
+      accepted = cut_accepted (closed_cables s) l sheet.strength c.args.buffer.now c.write_first.new.buffer sheet.parts s.table.lawful devices fit.0 c.if-buffer-lt128.false c.write_first.auto.buffer w.first w.later strength c.own_sheet-sheet.ensures.low good;
     }

@@ -8,35 +8,35 @@ use Rattle.plan.proofs.Checking.{listed_one, refused_gives, refused_writes, buff
 use Rattle.plan.proofs.Grouping.{group_told}
 use Rattle.plan.proofs.plan.Closed.group.Goals as goal
 
-pub returns-in-err-devices : goal.returns-in-err-devices
-returns-in-err-devices g c =
+pub returns-in_err-devices : goal.returns-in_err-devices
+returns-in_err-devices g c =
     let l = c.args.list.now in
     let bs = c.args.buffer.now in
-    let e = c.in-err-devices.field-0.0 in
-    let exit = c.from-residual.ensures.1 in
+    let e = c.in_err-devices.field-0.0 in
+    let exit = c.from_residual.ensures.1 in
     record {
-      answer = refused_gives l (refuse BufferTooShort (ltb (length bs) 128) (Ok tt)) (GroupIs (closed_cables c.args.self.now) l bs) e c.from-residual.result exit c.in-err-devices.ensures;
-      buffer = refused_writes e c.from-residual.result bs exit;
+      answer = refused_gives l (refuse BufferTooShort (ltb (length bs) 128) (Ok tt)) (GroupIs (closed_cables c.args.self.now) l bs) e c.from_residual.result exit c.in_err-devices.ensures;
+      buffer = refused_writes e c.from_residual.result bs exit;
     }
 
 pub returns-then-buffer-lt128 : goal.returns-then-buffer-lt128
 returns-then-buffer-lt128 g c =
     record {
-      answer = buffer_short c.args.list.now (length c.args.buffer.now) c.in-ok-devices.ensures.0 c.if-buffer-lt128.true;
+      answer = buffer_short c.args.list.now (length c.args.buffer.now) c.in_ok-devices.ensures.0 c.if-buffer-lt128.true;
       buffer = refl;
     }
 
 pub returns-then-strength-eq0 : goal.returns-then-strength-eq0
 returns-then-strength-eq0 g c =
     let l = c.args.list.now in
-    let ok = c.in-ok-devices.ensures in
+    let ok = c.in_ok-devices.ensures in
     let x = listed_one l ok.0 in
-    let w = c.write-bytes.ensures in
+    let w = c.write_bytes.ensures in
     record {
       answer = (
         buffer_long l (length c.args.buffer.now) ok.0 c.if-buffer-lt128.false,
         (
-          subst (ListStrength (closed_cables c.args.self.now) l) c.if-strength-eq0.true (c.strength-of-strength.ensures l x.0 ok.1 x.1),
+          subst (ListStrength (closed_cables c.args.self.now) l) c.if-strength-eq0.true (c.strength_of-strength.ensures l x.0 ok.1 x.1),
           λ d h. w.bytes d h ∙ ap (λ t. cond t 1 0) (c.none.ensures d),
         ),
       );
@@ -46,17 +46,17 @@ returns-then-strength-eq0 g c =
 pub returns : goal.returns
 returns g c =
     let l = c.args.list.now in
-    let ok = c.in-ok-devices.ensures in
+    let ok = c.in_ok-devices.ensures in
     let x = listed_one l ok.0 in
-    let k = c.strength-of-strength.result in
-    let strength = c.strength-of-strength.ensures l x.0 ok.1 x.1 in
+    let k = c.strength_of-strength.result in
+    let strength = c.strength_of-strength.ensures l x.0 ok.1 x.1 in
     let pos : 0 < k = omega (arith, c.if-strength-eq0.false) in
-    let w = c.write-bytes-2.ensures in
+    let w = c.write_bytes-2.ensures in
     record {
       answer = (
         buffer_long l (length c.args.buffer.now) ok.0 c.if-buffer-lt128.false,
-        group_told (closed_cables c.args.self.now) l c.args.buffer.now c.write-bytes-2.new.buffer k c.count-of.result c.group-of-group.result pos strength
-            (c.group-of-group.ensures l x.0 ok.1 x.1 pos strength) w c.count-of.ensures,
+        group_told (closed_cables c.args.self.now) l c.args.buffer.now c.write_bytes-2.new.buffer k c.count_of.result c.group_of-group.result pos strength
+            (c.group_of-group.ensures l x.0 ok.1 x.1 pos strength) w c.count_of.ensures,
       );
       buffer = (w.long, w.later);
     }

@@ -15,29 +15,29 @@ answered : (s : Tour) (tag : ℕ) (o : Option ℕ) → place (laid s) tag ≡ o
     → refuse TagMissing (not (is_some (place (laid s) tag))) (Ok (length (lift_after (laid s) tag))) ≡ refuse TagMissing (not (is_some o)) (Ok (length (lift_after (laid s) tag)))
 answered s tag o e = ap (λ p. refuse TagMissing (not (is_some p)) (Ok (length (lift_after (laid s) tag)))) e
 
-pub returns-in-default : goal.returns-in-default
-returns-in-default c =
+pub returns-in_default : goal.returns-in_default
+returns-in_default c =
     let s = c.args.self.now in
-    let e = sought s c.args.tag None c.in-default.ensures in
+    let e = sought s c.args.tag None c.in_default.ensures in
     record { answer = sym (answered s c.args.tag None e); after = sym (lift_none (laid s) c.args.tag e) }
 
-pub overflow-add-i : goal.overflow-add-i
-overflow-add-i c = let b = below c.args.self.now c.args.tag c.in-Some.i c.in-Some.ensures in omega (arith, c.args.self.now.few)
+pub overflow_add-i : goal.overflow_add-i
+overflow_add-i c = let b = below c.args.self.now c.args.tag c.in-Some.i c.in-Some.ensures in omega (arith, c.args.self.now.few)
 
-pub copy-within-requires : goal.copy-within-requires
-copy-within-requires c =
+pub copy_within-requires : goal.copy_within-requires
+copy_within-requires c =
     let s = c.args.self.now in
     let b = below s c.args.tag c.in-Some.i c.in-Some.ensures in
     let f = s.few in
     let z = s.size in
     record { start-le-end = omega arith; in_bounds = omega arith; dest-in-bounds = omega arith; not-exhausted = tt }
 
-pub invariant-of-self : goal.invariant-of-self
-invariant-of-self c =
+pub invariant_of-self : goal.invariant_of-self
+invariant_of-self c =
     let s = c.args.self.now in
     let i = c.in-Some.i in
     let b = below s c.args.tag i c.in-Some.ensures in
-    let e = closed_up s.rows c.copy-within.new.self s.count i (omega (arith, s.few, s.size)) b c.copy-within.ensures.after in (
+    let e = closed_up s.rows c.copy_within.new.self s.count i (omega (arith, s.few, s.size)) b c.copy_within.ensures.after in (
       omega (arith, s.few),
       (
         search rules,
@@ -54,5 +54,5 @@ returns c =
     let p = sought s tag (Some i) c.in-Some.ensures in
     record {
       answer = sym (answered s tag (Some i) p ∙ ap Ok (length_lift (laid s) tag i p ∙ ap (λ k. k - 1) (length_laid s)));
-      after = closed_up s.rows c.copy-within.new.self s.count i (omega (arith, s.few, s.size)) b c.copy-within.ensures.after ∙ sym (lift_removes (laid s) tag i p);
+      after = closed_up s.rows c.copy_within.new.self s.count i (omega (arith, s.few, s.size)) b c.copy_within.ensures.after ∙ sym (lift_removes (laid s) tag i p);
     }
