@@ -6,9 +6,9 @@ use Rattle.script.proofs.split.words_of.Goals as goal
 
 pub loop-piece-init : goal.loop-piece-init
 loop-piece-init c =
-    let same = c.into_iter-piece-iterator.ensures.into_iter-gives in
+    let same = c.into_iter-piece-iterator.ensures.into_iter_gives in
     let cut = c.split-piece-items.ensures in
-    at_start _ _ _ _ _ (ap split_pattern same ∙ cut.pattern) (ap split_has_more same ∙ cut.Has-more) (ap split_text same ∙ cut.text) c.new-found.ensures.items
+    at_start _ _ _ _ _ (ap split_pattern same ∙ cut.pattern) (ap split_has_more same ∙ cut.has_more) (ap split_text same ∙ cut.text) c.new-found.ensures.items
 
 pub loop-piece-preserved-then-is_empty : goal.loop-piece-preserved-then-is_empty
 loop-piece-preserved-then-is_empty c =

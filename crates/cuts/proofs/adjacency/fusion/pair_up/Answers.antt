@@ -6,36 +6,36 @@ use Rattle.cuts.proofs.adjacency.fusion.pair_up.Goals.{then-may_pair, else-may_p
 use Rattle.cuts.proofs.Pairing.{pairing_none, pairing_more, pairing_at, pairing_all}
 
 pub loop-l-init : goal.loop-l-init
-loop-l-init c = pairing_none _ _ _ _ _ c.requires.1 c.identity-to.ensures.len c.identity-to.ensures.same
+loop-l-init c = pairing_none _ _ _ _ _ c.requires.n_bound c.identity-to.ensures.len c.identity-to.ensures.same
 
 low_a : (c : goal.Joined-may_pair) → get_or c.args.labels.now c.l-item.result.a 0 < 128
-low_a c = omega (arith, c.requires.2 _ c.l-item.result.low, c.requires.1)
+low_a c = omega (arith, c.requires.by_index _ c.l-item.result.low, c.requires.n_bound)
 
 low_b : (c : goal.Joined-may_pair) → get_or c.args.labels.now c.l-item.result.b 0 < 128
-low_b c = omega (arith, c.requires.2 _ c.l-item.result.high, c.requires.1)
+low_b c = omega (arith, c.requires.by_index _ c.l-item.result.high, c.requires.n_bound)
 
 pub loop-l-preserved : goal.loop-l-preserved
 loop-l-preserved c =
     elim c.if-may_pair.branch [
       | then-may_pair w ↦ pairing_at _ _ _ _ _ _ _ _ w.to-is w.used-is
           (pairing_more _ _ _ _ _ _ c.args.m.now c.args.degrees.now (get_or c.args.labels.now c.l-item.result.a 0) (get_or c.args.labels.now c.l-item.result.b 0)
-          c.requires.1 c.requires.2 (c.requires.2 _ c.l-item.result.low) (c.requires.2 _ c.l-item.result.high)
-          (c.requires.3 _ (low_a c)) (c.requires.4 _ (c.requires.2 _ c.l-item.result.low))
-          (c.requires.5 _ _ (low_a c) (low_b c)) (sym c.may_pair.ensures ∙ w.if-may_pair.true) c.loop-l.invariant)
+          c.requires.n_bound c.requires.by_index (c.requires.by_index _ c.l-item.result.low) (c.requires.by_index _ c.l-item.result.high)
+          (c.requires.by_index_2 _ (low_a c)) (c.requires.by_index_3 _ (c.requires.by_index _ c.l-item.result.low))
+          (c.requires.matrix _ _ (low_a c) (low_b c)) (sym c.may_pair.ensures ∙ w.if-may_pair.true) c.loop-l.invariant)
       | else-may_pair w ↦ pairing_at _ _ _ _ _ _ _ _ w.to-is w.used-is c.loop-l.invariant
     ]
 
 pub may_pair-requires : goal.may_pair-requires
-may_pair-requires c = (
-  omega (arith, c.requires.2 _ c.l-item.result.low, c.requires.1),
-  omega (arith, c.requires.2 _ c.l-item.result.high, c.requires.1),
-  omega (
+may_pair-requires c = (record {
+  a_bound = omega (arith, c.requires.by_index _ c.l-item.result.low, c.requires.n_bound);
+  b_bound = omega (arith, c.requires.by_index _ c.l-item.result.high, c.requires.n_bound);
+  b_bound_2 = omega (
     arith,
-    c.requires.5 (get_or c.args.labels.now c.l-item.result.a 0) (get_or c.args.labels.now c.l-item.result.b 0) (omega (arith, c.requires.2 _ c.l-item.result.low, c.requires.1)) (omega (arith, c.requires.2 _ c.l-item.result.high, c.requires.1)),
+    c.requires.matrix (get_or c.args.labels.now c.l-item.result.a 0) (get_or c.args.labels.now c.l-item.result.b 0) (omega (arith, c.requires.by_index _ c.l-item.result.low, c.requires.n_bound)) (omega (arith, c.requires.by_index _ c.l-item.result.high, c.requires.n_bound)),
     count_by-le-length (joins (label c.args.labels.now) (get_or c.args.labels.now c.l-item.result.a 0) (get_or c.args.labels.now c.l-item.result.b 0)) c.args.links.now,
-    c.requires.0,
-  ),
-)
+    c.requires.links_len_bound,
+  );
+})
 
 pub returns : goal.returns
 returns c = record { moved = pairing_all _ _ _ _ _ _ c.loop-l.invariant; low = c.loop-l.invariant.low_all }

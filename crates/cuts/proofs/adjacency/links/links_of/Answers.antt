@@ -26,4 +26,4 @@ returns c = keeps_all _ _ _ _ c.loop-c.c-index (omega arith) c.loop-c.invariant.
 pub invariant_of-links-then-both_ends_in : goal.invariant_of-links-then-both_ends_in
 invariant_of-links-then-both_ends_in c =
     let s = and_parts _ _ (sym c.both_ends_in.ensures ∙ c.if-both_ends_in.true) in
-    (held_low c.args.set.now _ s.0, (held_low c.args.set.now _ s.1, tt))
+    record { low = held_low c.args.set.now _ s.0; high = held_low c.args.set.now _ s.1 }

@@ -5,10 +5,7 @@ use Rattle.cuts.proofs.rig.Rig.push.Goals as goal
 
 pub invariant_of-self : goal.invariant_of-self
 invariant_of-self c =
-    let may = c.if-admits.ensures.0 refl in (
-      omega arith,
-      (length-set _ _ _ ∙ c.args.self.now.size, (lawful_more _ _ c.args.self.now.size c.args.cable may.0 c.args.self.now.lawful may.1, tt)),
-    )
+    let may = c.if-admits.ensures.0 refl in record { few = omega arith; size = length-set _ _ _ ∙ c.args.self.now.size; lawful = lawful_more _ _ c.args.self.now.size c.args.cable may.0 c.args.self.now.lawful may.1 }
 
 pub returns-then-admits : goal.returns-then-admits
 returns-then-admits c =
