@@ -32,8 +32,8 @@ loop-p-preserved-in-Some g c =
     let st = subst (λ k. State k t.part t.floor t.marks (suc l.n)) c.cables.ensures c.turn.ensures.state in
     let few = state_few (rig_cables c.args.rig.now) t.part t.floor t.marks (suc l.n) st in (
       c.turn.array_long,
-      c.turn.array-long2,
-      c.turn.array-long3,
+      c.turn.array_long2,
+      c.turn.array_long3,
       omega arith,
       subst (λ k. State (rig_cables c.args.rig.now) t.part t.floor t.marks k) more st,
       done_turn (number l.part) (number t.part) l.p l.n (set_of c.in-Some.cut.side) c.loop-p-test.true c.turn.ensures.parts l.invariant.5,

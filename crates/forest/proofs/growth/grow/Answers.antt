@@ -7,7 +7,7 @@ use Rattle.forest.proofs.growth.grow.Goals as goal
 pub loop-best-init : goal.loop-best-init
 loop-best-init g c =
     let s = c.args.edges.now in
-    grown_none g.Grade-as-Grade.over (g.E.Graded.cables s) (g.E.Graded.grade s) (place_of c.bare-forest.result) c.bare-forest.result.count c.own_labels-labels.result
+    grown_none g.E.Grade.Grade.over (g.E.Graded.cables s) (g.E.Graded.grade s) (place_of c.bare-forest.result) c.bare-forest.result.count c.own_labels-labels.result
     (g.E.Graded.lawful s) c.bare-forest.ensures c.own_labels-labels.ensures.size c.own_labels-labels.ensures.own
 
 pub merge-requires : goal.merge-requires
@@ -26,7 +26,7 @@ pub loop-best-preserved : goal.loop-best-preserved
 loop-best-preserved g c =
     let s = c.args.edges.now in
     let f = c.keep.new.self in
-    subst (λ n. Grown g.Grade-as-Grade.over (g.E.Graded.cables s) (g.E.Graded.grade s) (place_of f) n c.merge.new.labels) (sym c.keep.ensures.longer)
+    subst (λ n. Grown g.E.Grade.Grade.over (g.E.Graded.cables s) (g.E.Graded.grade s) (place_of f) n c.merge.new.labels) (sym c.keep.ensures.longer)
     (grown_more g.met.E.Grade.Grade.order (g.E.Graded.cables s) (g.E.Graded.grade s) (g.E.Graded.lawful s) (place_of c.loop-best.forest) c.loop-best.forest.count c.loop-best.labels c.loop-best.invariant
     c.in-Some.best c.in-Some.ensures c.merge.new.labels c.merge.ensures
     (place_of f) c.keep.ensures.last c.keep.ensures.others)

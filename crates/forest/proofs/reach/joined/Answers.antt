@@ -6,7 +6,7 @@ use Rattle.forest.proofs.reach.joined.Goals as goal
 pub returns-then-from-gt127 : goal.returns-then-from-gt127
 returns-then-from-gt127 g c =
     let s = c.args.edges.now in
-    λ d h. unlinked (reaching_ranged g.Grade-as-Grade.over (g.E.Graded.cables s) (g.E.Graded.grade s) c.args.floor (g.E.Graded.lawful s))
+    λ d h. unlinked (reaching_ranged g.E.Grade.Grade.over (g.E.Graded.cables s) (g.E.Graded.grade s) c.args.floor (g.E.Graded.lawful s))
     c.args.from d c.if-from-gt127.true h (set_of c.none.result d) (c.none.ensures d)
 
 pub returns : goal.returns
