@@ -9,11 +9,11 @@ use network::cable::Run;
 pub trait Yardstick {
     type Grade: Grade;
 
-    ghost graded: { Self → Run → Self.Grade };
+    ghost graded: { Run → Self.Grade };
 
     /// The grade of a run.
     fn grade(&self, run: Run) -> Self::Grade
-        ensures { result ≡ graded self.now run };
+        ensures { result ≡ graded run };
 }
 
 /// The run itself is the grade.
@@ -23,7 +23,7 @@ pub struct Plain;
 impl Yardstick for Plain {
     type Grade = Run;
 
-    ghost graded = { λ _ run. run };
+    ghost graded = { λ run. run };
 
     fn grade(&self, run: Run) -> Run {
         run
@@ -37,7 +37,7 @@ pub struct Length;
 impl Yardstick for Length {
     type Grade = Metres;
 
-    ghost graded = { λ _ run. record { 0 = run.length } };
+    ghost graded = { λ run. record { 0 = run.length } };
 
     fn grade(&self, run: Run) -> Metres {
         Metres(run.length)

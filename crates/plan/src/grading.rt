@@ -79,7 +79,7 @@ impl<'a, 'b, Y: Yardstick> Graded for Ruled<'a, 'b, Y> {
 
     ghost cables = { λ s. cables_in (rows_of s.table.now) };
 
-    ghost grade = { λ s i. Y.Yardstick.graded s.yardstick.now (run_at (cables_in (rows_of s.table.now)) i) };
+    ghost grade = { λ s i. Y.Yardstick.graded (run_at (cables_in (rows_of s.table.now)) i) };
 
     ghost few = { λ s. few_cables s.table.now };
 

@@ -22,7 +22,7 @@ use network::refusal::Refusal;
 // The best grade whose cables join the devices; none where all cables together do not join them.
 fn poorest_run<Y: Yardstick>(table: &Table, yardstick: &Y, devices: &Devices) -> Option<Y::Grade>
     requires { DeviceSet (set_of devices.now) }
-    ensures { RunIs Y.Grade.Grade.over (Y.Yardstick.graded yardstick.now) (cables_in (rows_of table.now)) (set_of devices.now) result }
+    ensures { RunIs Y.Grade.Grade.over Y.Yardstick.graded (cables_in (rows_of table.now)) (set_of devices.now) result }
 {
     poorest(&Ruled { table, yardstick }, devices)
 }
@@ -69,7 +69,7 @@ impl<H: House> Closed<H> {
     /// empty, has more than 128 entries, names a number above 127, or names fewer than two different devices.
     /// It costs one look at each cable for each cable of a spanning forest.
     pub fn run<Y: Yardstick>(&self, list: &[u8], yardstick: &Y) -> Result<Option<Y::Grade>, Refusal>
-        ensures { RunAnswer Y.Grade.Grade.over (Y.Yardstick.graded yardstick.now) (closed_cables self.now) list.now result }
+        ensures { RunAnswer Y.Grade.Grade.over Y.Yardstick.graded (closed_cables self.now) list.now result }
     {
         let devices = listed(list)?;
         let Some(_) = one_of_several(&devices) else {

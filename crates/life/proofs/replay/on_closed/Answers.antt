@@ -8,12 +8,12 @@ use Rattle.life.proofs.replay.on_closed.Goals as goal
 
 pub returns-in-Reopen : goal.returns-in-Reopen
 returns-in-Reopen g c =
-    step_of g.H.House.cables g.Grade.Grade.over g.Y.Yardstick.graded c.in-Reopen.is (reopens c.reopen.ensures)
+    step_of g.H.House.cables g.Y.Grade.Grade.over (λ _. g.Y.Yardstick.graded) c.in-Reopen.is (reopens c.reopen.ensures)
 
 pub returns-in-Strength : goal.returns-in-Strength
 returns-in-Strength g c =
     let cs = closed_cables c.args.plan in let r = c.strength-answer.result in
-    step_of g.H.House.cables g.Grade.Grade.over g.Y.Yardstick.graded c.in-Strength.is
+    step_of g.H.House.cables g.Y.Grade.Grade.over (λ _. g.Y.Yardstick.graded) c.in-Strength.is
     (strengths {c = c.args.plan} _ _ (subst (λ l. StrengthAnswer cs l r) c.as_slice.ensures.value c.strength-answer.ensures))
 
 pub returns-in_ok-written : goal.returns-in_ok-written
@@ -23,16 +23,16 @@ returns-in_ok-written g c =
     let list = vec_items c.in-Group.list in let before = vec_items c.in-Group.buffer in
     let copied : vec_items c.in_ok-written.written ≡ before
     = ◌∙◌ {b = c.as_slice-in-Group.result.now} c.in_ok-written.ensures.items c.as_slice-in-Group.ensures.value in
-    step_of g.H.House.cables g.Grade.Grade.over g.Y.Yardstick.graded c.in-Group.is
+    step_of g.H.House.cables g.Y.Grade.Grade.over (λ _. g.Y.Yardstick.graded) c.in-Group.is
     (groups {c = c.args.plan} list before r after
     (subst (λ l. GroupAnswer cs l before r after) c.as_slice-in-Group-2.ensures.value
     (subst (λ b. GroupAnswer cs c.as_slice-in-Group-2.result.now b r after) copied c.group_into-answer.ensures)))
 
 pub returns-in-Run : goal.returns-in-Run
 returns-in-Run g c =
-    let cs = closed_cables c.args.plan in let r = c.run-answer.result in let over = g.Grade.Grade.over in
-    let graded = g.Y.Yardstick.graded c.in-Run.yardstick in
-    step_of g.H.House.cables over g.Y.Yardstick.graded c.in-Run.is
+    let cs = closed_cables c.args.plan in let r = c.run-answer.result in let over = g.Y.Grade.Grade.over in
+    let graded = g.Y.Yardstick.graded in
+    step_of g.H.House.cables over (λ _. g.Y.Yardstick.graded) c.in-Run.is
     (runs {c = c.args.plan} _ _ _ (subst (λ l. RunAnswer over graded cs l r) c.as_slice-in-Run.ensures.value c.run-answer.ensures))
 
 pub returns-in_default : goal.returns-in_default

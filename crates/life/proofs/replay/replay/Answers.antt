@@ -10,18 +10,18 @@ use Rattle.life.proofs.replay.replay.Goals as goal
 
 pub loop-call-init : goal.loop-call-init
 loop-call-init g c =
-    come_none g.H.House.cables g.Grade.Grade.over g.Y.Yardstick.graded (plan.Open c.begin.result) c.args.script.now _ c.new-answers.ensures.items
+    come_none g.H.House.cables g.Y.Grade.Grade.over (λ _. g.Y.Yardstick.graded) (plan.Open c.begin.result) c.args.script.now _ c.new-answers.ensures.items
 
 pub loop-call-preserved : goal.loop-call-preserved
 loop-call-preserved g c =
     let l = c.loop-call in
-    come_more g.H.House.cables g.Grade.Grade.over g.Y.Yardstick.graded (plan.Open c.begin.result) c.args.script.now l.call-index (vec_items l.answers) l.plan
+    come_more g.H.House.cables g.Y.Grade.Grade.over (λ _. g.Y.Yardstick.graded) (plan.Open c.begin.result) c.args.script.now l.call-index (vec_items l.answers) l.plan
     c.call-item.result c.in_ok-after.answer (vec_items c.push.new.self) c.in_ok-after.after
     c.loop-call-test.true c.call-item.is c.in_ok-after.ensures c.in_ok-push.ensures.items l.invariant
 
 pub returns : goal.returns
 returns g c =
-    let cables = g.H.House.cables in let over = g.Grade.Grade.over in let graded = g.Y.Yardstick.graded in
+    let cables = g.H.House.cables in let over = g.Y.Grade.Grade.over in let graded = (λ (_ : g.row.Y). g.Y.Yardstick.graded) in
     let script = c.args.script.now in let l = c.loop-call in let p = c.begin.result in
     let life : Life cables over graded (plan.Open p) (row script (vec_items l.answers))
     = come_all cables over graded (plan.Open p) script l.call-index (vec_items l.answers) l.plan c.loop-call-test.false l.invariant in

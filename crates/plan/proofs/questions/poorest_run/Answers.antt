@@ -5,5 +5,5 @@ use Rattle.plan.proofs.Runs.{run_is}
 use Rattle.plan.proofs.questions.poorest_run.Goals as goal
 
 pub returns : goal.returns
-returns g c = run_is g.row.Y-Grade-Grade.over (g.Y.Yardstick.graded c.args.yardstick.now) (cables_in (rows_of c.args.table.now))
+returns g c = run_is g.Y.Grade.Grade.over g.Y.Yardstick.graded (cables_in (rows_of c.args.table.now))
     (set_of c.args.devices.now) c.poorest.result (c.poorest.ensures.answer c.requires)

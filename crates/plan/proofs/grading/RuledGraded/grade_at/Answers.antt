@@ -8,11 +8,11 @@ use Rattle.plan.proofs.grading.RuledGraded.grade_at.Goals as goal
 pub returns-in_err-row : goal.returns-in_err-row
 returns-in_err-row g c =
     let s = c.args.self.now in
-    let graded = g.Y.Yardstick.graded s.yardstick.now in
+    let graded = g.Y.Yardstick.graded in
     c.from_residual.ensures ∙ sym (ap (λ o. if_laid o (graded (run_of o))) (cable_past (rows_of s.table.now) c.args.place c.in_err-row.ensures))
 
 pub returns : goal.returns
 returns g c =
     let s = c.args.self.now in
-    let graded = g.Y.Yardstick.graded s.yardstick.now in
+    let graded = g.Y.Yardstick.graded in
     ap Some c.grade.ensures ∙ sym (ap (λ o. if_laid o (graded (run_of o))) (cable_of_row (rows_of s.table.now) c.args.place c.in_ok-row.row c.in_ok-row.ensures))

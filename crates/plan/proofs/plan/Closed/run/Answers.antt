@@ -12,7 +12,7 @@ pub returns-in_err-devices : goal.returns-in_err-devices
 returns-in_err-devices g c =
     let l = c.args.list.now in
     refused_gives l (refuse TooFewDevices (not (several (member l))) (Ok tt))
-    (RunIs g.row.Y-Grade-Grade.over (g.Y.Yardstick.graded c.args.yardstick.now) (closed_cables c.args.self.now) (member l))
+    (RunIs g.Y.Grade.Grade.over g.Y.Yardstick.graded (closed_cables c.args.self.now) (member l))
     c.in_err-devices.field-0.0 c.from_residual.result c.from_residual.ensures.1 c.in_err-devices.ensures
 
 pub returns-in_default : goal.returns-in_default
@@ -29,5 +29,5 @@ returns g c =
     let l = c.args.list.now in
     let ok = c.in_ok-devices.ensures in (
       enough s l ok.1 ok.0 c.in-Some.ensures.0,
-      subst (λ D. RunIs g.row.Y-Grade-Grade.over (g.Y.Yardstick.graded c.args.yardstick.now) (closed_cables c.args.self.now) D c.poorest_run.result) (named s l ok.1) c.poorest_run.ensures,
+      subst (λ D. RunIs g.Y.Grade.Grade.over g.Y.Yardstick.graded (closed_cables c.args.self.now) D c.poorest_run.result) (named s l ok.1) c.poorest_run.ensures,
     )
