@@ -1,7 +1,7 @@
 -- From the first fault of a sheet to the judge's answer, and what the answer says of every set that contains the list. Assumes nothing.
 use Rattle.std.proofs.Common.{◌≡◌, ℕ, suc, ◌<◌, Bool, true, false, not, ◌||◌, eqb, List, [], ◌∷◌, length, get_or, Some, None, Ok, Err, Option, Result, sym, refl, ap, ◌∙◌, subst, ap₂, ⊎_elim, arith}
 use Rattle.std.proofs.lemmas.List.{get_or_past}
-use Rattle.std.proofs.lemmas.Bool.{cases_lt, ltb-false, le-ltb, or_parts, or_from, not_false, eqb-true, eq-eqb}
+use Rattle.std.proofs.lemmas.Bool.{cases_lt, ltb-false, le-ltb, or_parts, or_from, not-false, eqb-true, eq-eqb}
 use Rattle.network.specs.Cables.{above, Lawful}
 use Rattle.network.specs.Refusals.{refuse}
 use Rattle.network.specs.Sheets.{GoodSheet}
@@ -26,7 +26,7 @@ module _ {A : Type 0} (P : Result A Refusal → Type 0) where
   past_met check r is p = subst (λ x. Past x P r) (sym is) p
 
 pub well_formed_long : (bs : List ℕ) → ill_formed bs ≡ false → length bs ≡ 128
-well_formed_long bs e = eqb-true (length bs) 128 (not_false (eqb (length bs) 128) (or_parts (not (eqb (length bs) 128)) (outside bs) e).0)
+well_formed_long bs e = eqb-true (length bs) 128 (not-false (eqb (length bs) 128) (or_parts (not (eqb (length bs) 128)) (outside bs) e).0)
 
 pub parts_low : (bs : List ℕ) → ill_formed bs ≡ false → (d : ℕ) → part_of bs d < 128
 parts_low bs e d = ⊎_elim

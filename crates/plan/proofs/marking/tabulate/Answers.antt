@@ -27,16 +27,13 @@ invariant_of-result c =
     let m = number c.args.marks.now in
     let n = ap length c.cables-cables.ensures in
     let e = rows_all m (rig_cables r) c.loop-i.rows c.loop-i.i c.len.result c.len.ensures (omega (arith, n, c.loop-i-test.false)) (omega (arith, n, c.loop-i.auto.i-end)) c.loop-i.invariant.1 in
-    let few = length-take-le r.count r.cables (omega (arith, r.few, r.size)) in (
-      omega (arith, c.len.ensures, few, r.few),
-      (
-        c.loop-i.invariant.0,
-        (
-          subst Lawful (sym (ap cables_in e ∙ cables_rows m (rig_cables r))) r.lawful,
-          (subst (λ x. Marked x) (sym e) (rows_marked m (rig_cables r) r.lawful c.requires), tt),
-        ),
-      ),
-    )
+    let few = length-take-le r.count r.cables (omega (arith, r.few, r.size)) in
+    record {
+      few = omega (arith, c.len.ensures, few, r.few);
+      size = c.loop-i.invariant.0;
+      lawful = subst Lawful (sym (ap cables_in e ∙ cables_rows m (rig_cables r))) r.lawful;
+      marked = subst (λ x. Marked x) (sym e) (rows_marked m (rig_cables r) r.lawful c.requires);
+    }
 
 pub returns : goal.returns
 returns c =

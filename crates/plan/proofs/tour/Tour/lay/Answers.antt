@@ -9,16 +9,12 @@ use Rattle.plan.proofs.tour.Tour.lay.Goals as goal
 pub invariant_of-self : goal.invariant_of-self
 invariant_of-self c =
     let s = c.args.self.now in
-    let row : TourCable = record { tag = c.args.tag; cable = c.args.cable } in (
-      omega arith,
-      (
-        length-set s.rows s.count row ∙ s.size,
-        (
-          lawful_laid s.rows s.count row (omega (arith, s.size)) s.lawful (checked_lawful c.args.cable c.in_ok-check.field-0 c.in_ok-check.ensures),
-          tt,
-        ),
-      ),
-    )
+    let row : TourCable = record { tag = c.args.tag; cable = c.args.cable } in
+    record {
+      few = omega arith;
+      size = length-set s.rows s.count row ∙ s.size;
+      lawful = lawful_laid s.rows s.count row (omega (arith, s.size)) s.lawful (checked_lawful c.args.cable c.in_ok-check.field-0 c.in_ok-check.ensures);
+    }
 
 pub returns : goal.returns
 returns c =

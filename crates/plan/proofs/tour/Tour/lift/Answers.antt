@@ -30,20 +30,19 @@ copy_within-requires c =
     let b = below s c.args.tag c.in-Some.i c.in-Some.ensures in
     let f = s.few in
     let z = s.size in
-    record { start-le-end = omega arith; in_bounds = omega arith; dest-in-bounds = omega arith; not-exhausted = tt }
+    record { start_le_end = omega arith; in_bounds = omega arith; dest_in_bounds = omega arith; not_exhausted = tt }
 
 pub invariant_of-self : goal.invariant_of-self
 invariant_of-self c =
     let s = c.args.self.now in
     let i = c.in-Some.i in
     let b = below s c.args.tag i c.in-Some.ensures in
-    let e = closed_up s.rows c.copy_within.new.self s.count i (omega (arith, s.few, s.size)) b c.copy_within.ensures.after in (
-      omega (arith, s.few),
-      (
-        search rules,
-        (subst (λ t. Lawful (tour_cables t)) (sym e) (lawful_removed (laid s) i s.lawful), tt),
-      ),
-    )
+    let e = closed_up s.rows c.copy_within.new.self s.count i (omega (arith, s.few, s.size)) b c.copy_within.ensures.after in
+    record {
+      few = omega (arith, s.few);
+      size = search rules;
+      lawful = subst (λ t. Lawful (tour_cables t)) (sym e) (lawful_removed (laid s) i s.lawful);
+    }
 
 pub returns : goal.returns
 returns c =
