@@ -5,11 +5,11 @@ use Rattle.life.proofs.replay.on_open.Goals as goal
 
 pub returns-in-Lay : goal.returns-in-Lay
 returns-in-Lay g c =
-    step_of g.H.House.cables g.Y.Grade.Grade.over (λ _. g.Y.Yardstick.graded) c.in-Lay.is (lays _ _ _ _ _ c.lay_answer.ensures)
+    step_of g.H.House.cables g.Y.Grade.Grade.over (λ _. g.Y.Yardstick.graded) c.in-Lay.is (lays _ _ _ _ _ c.lay-answer.ensures)
 
 pub returns-in-Lift : goal.returns-in-Lift
 returns-in-Lift g c =
-    step_of g.H.House.cables g.Y.Grade.Grade.over (λ _. g.Y.Yardstick.graded) c.in-Lift.is (lifts _ _ c.lift_answer.ensures)
+    step_of g.H.House.cables g.Y.Grade.Grade.over (λ _. g.Y.Yardstick.graded) c.in-Lift.is (lifts _ _ c.lift-answer.ensures)
 
 pub returns-in-Close : goal.returns-in-Close
 returns-in-Close g c =
