@@ -9,11 +9,11 @@ use houses::house::House;
 /// and for every list answered, over the house's cables by place and then the tally's, the strength, the group and the run
 /// are right.
 pub fn life_law<H: House, Y: Yardstick>(_house: &H, _yardstick: &Y)
-    ensures { LifeLaw H.House.cables Y.Grade.Grade.over (λ _. Y.Yardstick.graded) }
+    ensures { LifeLaw H.House.cables Y.Grade.Grade.over (λ (_ : Y). Y.Yardstick.graded) }
 {}
 
 /// A run question is refused just as its tests say under every type of yardsticks. So what a life says of the questions
 /// under one type holds of its questions under any other.
 pub fn other_run<Y: Yardstick>(_yardstick: &Y)
-    ensures { OtherRun Y.Grade.Grade.over (λ _. Y.Yardstick.graded) }
+    ensures { OtherRun Y.Grade.Grade.over (λ (_ : Y). Y.Yardstick.graded) }
 {}

@@ -16,7 +16,7 @@ use std::alloc::{AllocError, Global};
 
 // One call of a script on an open plan.
 fn on_open<H: House, Y: Yardstick>(mut plan: Open<H>, call: &Call<Y>) -> (Plan<H>, Answer<Y::Grade>)
-    ensures { Step H.House.cables Y.Grade.Grade.over (λ _. Y.Yardstick.graded) (plans.Open plan) (ask_of call.now) (reply_of result.1) result.0 }
+    ensures { Step H.House.cables Y.Grade.Grade.over (λ (_ : Y). Y.Yardstick.graded) (plans.Open plan) (ask_of call.now) (reply_of result.1) result.0 }
 {
     match call {
         Call::Lay(lay) => {
@@ -49,7 +49,7 @@ fn on_closed<H: House + Drop, Y: Yardstick>(
     plan: Closed<H>,
     call: &Call<Y>,
 ) -> Result<(Plan<H>, Answer<Y::Grade>), AllocError>
-    ensures { IfOk result (λ x. Step H.House.cables Y.Grade.Grade.over (λ _. Y.Yardstick.graded) (plans.Closed plan) (ask_of call.now) (reply_of x.1) x.0) }
+    ensures { IfOk result (λ x. Step H.House.cables Y.Grade.Grade.over (λ (_ : Y). Y.Yardstick.graded) (plans.Closed plan) (ask_of call.now) (reply_of x.1) x.0) }
 {
     match call {
         Call::Reopen => Ok((Plan::Open(plan.reopen()), Answer::Turned)),
@@ -76,7 +76,7 @@ fn perform<H: House + Drop, Y: Yardstick>(
     plan: Plan<H>,
     call: &Call<Y>,
 ) -> Result<(Plan<H>, Answer<Y::Grade>), AllocError>
-    ensures { IfOk result (λ x. Step H.House.cables Y.Grade.Grade.over (λ _. Y.Yardstick.graded) plan (ask_of call.now) (reply_of x.1) x.0) }
+    ensures { IfOk result (λ x. Step H.House.cables Y.Grade.Grade.over (λ (_ : Y). Y.Yardstick.graded) plan (ask_of call.now) (reply_of x.1) x.0) }
 {
     match plan {
         Plan::Open(plan) => Ok(on_open(plan, call)),
@@ -92,7 +92,7 @@ pub fn replay<H: House + Drop, Y: Yardstick>(
     house: H,
     script: &[Call<Y>],
 ) -> Result<Vec<Answer<Y::Grade>>, AllocError>
-    ensures { IfOk result (λ answers. Replayed H.House.cables Y.Grade.Grade.over (λ _. Y.Yardstick.graded) house script.now answers.items) }
+    ensures { IfOk result (λ answers. Replayed H.House.cables Y.Grade.Grade.over (λ (_ : Y). Y.Yardstick.graded) house script.now answers.items) }
 {
     let mut plan = Plan::Open(Open::begin(house));
     let mut answers = Vec::new(heap);

@@ -16,13 +16,13 @@ returns-in-Strength g c =
     step_of g.H.House.cables g.Y.Grade.Grade.over (λ _. g.Y.Yardstick.graded) c.in-Strength.is
     (strengths {c = c.args.plan} _ _ (subst (λ l. StrengthAnswer cs l r) c.as_slice.ensures.value c.strength-answer.ensures))
 
-pub returns-in_ok-written : goal.returns-in_ok-written
-returns-in_ok-written g c =
+pub returns-in_ok-written-in-Group : goal.returns-in_ok-written-in-Group
+returns-in_ok-written-in-Group g c =
     let cs = closed_cables c.args.plan in let r = c.group_into-answer.result in
     let after = vec_items c.group_into-answer.new.buffer in
     let list = vec_items c.in-Group.list in let before = vec_items c.in-Group.buffer in
-    let copied : vec_items c.in_ok-written.written ≡ before
-    = ◌∙◌ {b = c.as_slice-in-Group.result.now} c.in_ok-written.ensures.items c.as_slice-in-Group.ensures.value in
+    let copied : vec_items c.in_ok-written-in-Group.written ≡ before
+    = ◌∙◌ {b = c.as_slice-in-Group.result.now} c.in_ok-written-in-Group.ensures.items c.as_slice-in-Group.ensures.value in
     step_of g.H.House.cables g.Y.Grade.Grade.over (λ _. g.Y.Yardstick.graded) c.in-Group.is
     (groups {c = c.args.plan} list before r after
     (subst (λ l. GroupAnswer cs l before r after) c.as_slice-in-Group-2.ensures.value

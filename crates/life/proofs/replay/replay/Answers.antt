@@ -21,14 +21,14 @@ loop-call-preserved g c =
 
 pub returns : goal.returns
 returns g c =
-    let cables = g.H.House.cables in let over = g.Y.Grade.Grade.over in let graded = (λ (_ : g.row.Y). g.Y.Yardstick.graded) in
+    let cables = g.H.House.cables in let over = g.Y.Grade.Grade.over in
     let script = c.args.script.now in let l = c.loop-call in let p = c.begin.result in
-    let life : Life cables over graded (plan.Open p) (row script (vec_items l.answers))
-    = come_all cables over graded (plan.Open p) script l.call-index (vec_items l.answers) l.plan c.loop-call-test.false l.invariant in
+    let life : Life cables over (λ _. g.Y.Yardstick.graded) (plan.Open p) (row script (vec_items l.answers))
+    = come_all cables over (λ _. g.Y.Yardstick.graded) (plan.Open p) script l.call-index (vec_items l.answers) l.plan c.loop-call-test.false l.invariant in
     let ended : l.call-index ≡ length script = omega (arith, c.loop-call-test.false, l.auto.call-index-end) in
     record {
       all = l.invariant.count ∙ ended;
-      told = life_law cables over graded c.args.house p (row script (vec_items l.answers)) c.begin.ensures life;
+      told = life_law cables over (λ _. g.Y.Yardstick.graded) c.args.house p (row script (vec_items l.answers)) c.begin.ensures life;
       life = (p, (c.begin.ensures, life));
     }
 
