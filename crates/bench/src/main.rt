@@ -1,6 +1,6 @@
-// Closes a plan as often as its first argument says, and tells the sum of the marks; then asks the closed plan as often as its second
-// argument says, and tells the sums of the answers. A third argument, `strength`, `group` or `run`, asks that alone. The cables come
-// from standard input, a line `A B` for each: the first 256 are the house's, the others the tour's.
+// Closes a plan as often as its first argument says, and tells the sum of the marks. Where there is a second argument, it asks the closed
+// plan as often as that says, and tells the sums of the answers; a third argument, `strength`, `group` or `run`, asks that alone. The
+// cables come from standard input, a line `A B` for each: the first 256 are the house's, the others the tour's.
 #![tactic(auto)]
 
 use anyhow::anyhow;
@@ -46,7 +46,7 @@ enum Questions {
 #[derive(Clone, Copy)]
 struct Task {
     closes: u32,
-    asks: u32,
+    asks: Option<u32>,
     questions: Questions,
 }
 
@@ -100,16 +100,26 @@ fn cables_told(rt: &HostRuntime) -> anyhow::Result<Vec<Ends>> {
     Ok(cables)
 }
 
-// How often to do what an argument counts; so many times where there is none.
-fn times_told(word: Option<String>, otherwise: u32) -> anyhow::Result<u32> {
+// How often to close: what the first argument says, or once.
+fn closes_told(word: Option<String>) -> anyhow::Result<u32> {
     let Some(word) = word else {
-        return Ok(otherwise);
+        return Ok(1);
     };
     match word.as_str().parse::<u32>() {
+        Ok(0) => Err(anyhow!("a plan is closed once at least")),
         Ok(times) => Ok(times),
-        Err(_) => Err(anyhow!(
-            "the first two arguments are how often to close and how often to ask"
-        )),
+        Err(_) => Err(anyhow!("the first argument is how often to close")),
+    }
+}
+
+// How often to ask: what the second argument says; none where there is no such argument.
+fn asks_told(word: Option<String>) -> anyhow::Result<Option<u32>> {
+    let Some(word) = word else {
+        return Ok(None);
+    };
+    match word.as_str().parse::<u32>() {
+        Ok(times) => Ok(Some(times)),
+        Err(_) => Err(anyhow!("the second argument is how often to ask")),
     }
 }
 
@@ -131,8 +141,8 @@ fn task_told(rt: &HostRuntime) -> anyhow::Result<Task> {
     let mut words = env::args(rt)?;
     let _ = words.next();
     Ok(Task {
-        closes: times_told(words.next(), 1)?,
-        asks: times_told(words.next(), 0)?,
+        closes: closes_told(words.next())?,
+        asks: asks_told(words.next())?,
         questions: questions_told(words.next())?,
     })
 }
@@ -215,12 +225,16 @@ fn list_at(cables: &[Ends], n: usize) -> [u8; 3] {
 }
 
 // Asks so many lists.
-fn ask_often<H: House>(closed: &Closed<H>, cables: &[Ends], task: Task) -> Sums {
-    let questions = task.questions;
+fn ask_often<H: House>(
+    closed: &Closed<H>,
+    cables: &[Ends],
+    asks: u32,
+    questions: Questions,
+) -> Sums {
     let mut strengths: u64 = 0;
     let mut groups: u64 = 0;
     let mut runs: u64 = 0;
-    for n in 0..task.asks {
+    for n in 0..asks {
         let list = list_at(cables, n as usize);
         if questions == Questions::All || questions == Questions::Strength {
             strengths = strengths.saturating_add(strength_told(closed, &list));
@@ -252,12 +266,14 @@ fn tell<H: House + Drop>(
     let Told { count, marks } = told_by(&closed);
     let closes = task.closes;
     println!(rt; "cables {count} closes {closes} marks {marks}")?;
+    let Some(asks) = task.asks else {
+        return Ok(());
+    };
     let Sums {
         strengths,
         groups,
         runs,
-    } = ask_often(&closed, cables, task);
-    let asks = task.asks;
+    } = ask_often(&closed, cables, asks, task.questions);
     println!(rt; "asks {asks} strengths {strengths} groups {groups} runs {runs}")?;
     Ok(())
 }

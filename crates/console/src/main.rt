@@ -5,9 +5,9 @@ use desk::reply::Reply;
 use desk::score::Score;
 use desk::setup::Setup;
 use desk::stage::play;
+use desk::state::Plan;
 use houses::house::House;
 use plan::plan::Open;
-use plan::state::Plan;
 use script::command::{Command, Line};
 use std::io::{BufRead, BufReader};
 

@@ -1,5 +1,4 @@
 -- What a console says to a question of a closed plan over the cables cs. Assumes nothing.
---   marked_reply a             what is said of the cable at a place
 --   strength_reply a           what is said of the answer to a strength
 --   group_reply a b            to a group, with the buffer b that it leaves
 --   run_reply a                to a run by the plain yardstick
@@ -15,24 +14,24 @@
 --   RunReply cs y l r          its poorest run by the yardstick y
 --   CutReply cs l r            a cut sheet of it, any good one
 --   JudgeReply cs c r          what a judge says of the claim c
+--   ClosedReply cs c r         r is an answer to a command on a closed plan that stores the cables cs
 use Rattle.std.specs.Prelude.{◌≡◌, ℕ, Bool, List, replicate, Some, None, Ok, Err, vec_items, Option, Result, nat_le}
 use Rattle.network.specs.declared.cable.Cable.{Cable}
-use Rattle.network.specs.declared.cable.MarkedCable.{MarkedCable}
 use Rattle.network.specs.declared.cable.Run.{Run}
 use Rattle.network.specs.declared.refusal.Refusal.{Refusal}
 use Rattle.forest.specs.Order.{run_over}
 use Rattle.forest.specs.declared.grade.Metres.{Metres}
 use Rattle.plan.specs.Questions.{StrengthAnswer, GroupAnswer, RunAnswer, CutAnswer}
 use Rattle.plan.specs.Judging.{Judges}
+use Rattle.plan.specs.Tables.{marked_at}
 use Rattle.script.specs.declared.command.Claim.{Claim}
+use Rattle.script.specs.declared.command.Command.{Command}
+use Rattle.script.specs.declared.command.Command.TheVariants as say
 use Rattle.script.specs.declared.command.Yardstick.{Yardstick}
 use Rattle.script.specs.declared.command.Yardstick.TheVariants as by
 use Rattle.desk.specs.declared.reply.Reply.{Reply}
 use Rattle.desk.specs.declared.reply.Reply.TheVariants as answer
-
-abbrev pub marked_reply : Option MarkedCable → Reply
-marked_reply (Some m) = answer.Marked m
-marked_reply None = answer.Absent
+use Rattle.desk.specs.Replies.{marked_reply}
 
 abbrev pub strength_reply : Result (Option ℕ) Refusal → Reply
 strength_reply (Ok (Some k)) = answer.Strength k
@@ -92,3 +91,18 @@ module _ (cs : List Cable) where
 
   abbrev pub JudgeReply : Claim → Reply → Type 0
   JudgeReply c = Says (Judges cs (vec_items c.list) c.k (vec_items c.sheet)) judge_reply
+
+abbrev pub ClosedReply : List Cable → Command → Reply → Type 0
+ClosedReply cs (say.House bytes) r = r ≡ answer.NotNow
+ClosedReply cs (say.Shift by) r = r ≡ answer.NotNow
+ClosedReply cs say.Begin r = r ≡ answer.NotNow
+ClosedReply cs (say.Lay l) r = r ≡ answer.NotNow
+ClosedReply cs (say.Lift tag) r = r ≡ answer.NotNow
+ClosedReply cs say.Close r = r ≡ answer.NotNow
+ClosedReply cs say.Reopen r = r ≡ answer.Open
+ClosedReply cs (say.Mark place) r = r ≡ marked_reply (marked_at cs place)
+ClosedReply cs (say.Strength l) r = StrengthReply cs (vec_items l) r
+ClosedReply cs (say.Group l) r = GroupReply cs (vec_items l) r
+ClosedReply cs (say.Run y l) r = RunReply cs y (vec_items l) r
+ClosedReply cs (say.Cut l) r = CutReply cs (vec_items l) r
+ClosedReply cs (say.Judge c) r = JudgeReply cs c r

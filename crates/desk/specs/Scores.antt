@@ -4,7 +4,7 @@
 --   Scored c f e s    the score s has c commands, f of them refused, and e errors, each as far as 64 bits count
 use Rattle.std.specs.Prelude.{◌≡◌, ℕ, ◌-◌, ◌^◌, min, Bool, true, false, cond}
 use Rattle.desk.specs.declared.reply.Reply.{Reply}
-use Rattle.desk.specs.declared.reply.Reply.TheVariants.{House, Misread, Shift, Open, Closed, Tour, Marked, Absent, Strength, Apart, Group, Run, Metres, Cut, Accepted, Refused, NotNow}
+use Rattle.desk.specs.declared.reply.Reply.TheVariants.{House, Misread, Shift, Open, Closed, Tour, Marked, Absent, Strength, Apart, Group, Run, Metres, Cut, Accepted, Refused, NotNow, NotYet}
 use Rattle.desk.specs.declared.score.Score.{Score}
 
 abbrev pub refused_by : Reply → Bool
@@ -25,6 +25,7 @@ refused_by (Cut c) = false
 refused_by Accepted = false
 refused_by (Refused r) = true
 refused_by NotNow = false
+refused_by NotYet = false
 
 abbrev pub one : Bool → ℕ
 one t = cond t 1 0

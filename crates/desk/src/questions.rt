@@ -1,26 +1,17 @@
 // What a console says on a closed plan. Asking changes nothing.
 ghost use Rattle.std.specs.Prelude.{◌≡◌};
 ghost use Rattle.plan.specs.Tables.{closed_cables};
-ghost use Rattle.desk.specs.Questions.{marked_reply, strength_reply, group_reply, run_reply, metres_reply, cut_reply, judge_reply, StrengthReply, GroupReply, RunReply, CutReply, JudgeReply};
-ghost use Rattle.desk.specs.Replies.{ClosedReply};
+ghost use Rattle.desk.specs.Questions.{strength_reply, group_reply, run_reply, metres_reply, cut_reply, judge_reply, StrengthReply, GroupReply, RunReply, CutReply, JudgeReply, ClosedReply};
 
 use crate::reply::{Cut, Group, Reply};
+use crate::stage::told_mark;
 use forest::grade::Metres;
 use forest::yardstick::{Length, Plain};
 use houses::house::House;
-use network::cable::{MarkedCable, Run};
+use network::cable::Run;
 use network::refusal::Refusal;
 use plan::plan::Closed;
 use script::command::{Claim, Command, Yardstick};
-
-fn told_mark(answer: Option<MarkedCable>) -> Reply
-    ensures { result ≡ marked_reply answer }
-{
-    match answer {
-        Some(marked) => Reply::Marked(marked),
-        None => Reply::Absent,
-    }
-}
 
 fn told_strength(answer: Result<Option<u16>, Refusal>) -> Reply
     ensures { result ≡ strength_reply answer }

@@ -58,6 +58,8 @@ pub enum Reply {
     Refused(Refusal),
     /// The state does not allow the command.
     NotNow,
+    /// The console cannot do this yet.
+    NotYet,
 }
 
 // The word for a medium.
@@ -132,6 +134,7 @@ impl fmt::Display for Reply {
                 write!(f, "refused {number}")
             }
             Reply::NotNow => f.write_str("not now"),
+            Reply::NotYet => f.write_str("not yet"),
         }
     }
 }

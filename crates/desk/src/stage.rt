@@ -1,14 +1,13 @@
 ghost use Rattle.std.specs.Prelude.{◌≡◌, ◌++◌};
 ghost use Rattle.plan.specs.Tally.{tour_cables};
-ghost use Rattle.plan.specs.Plans.{home, is_open, tour_of, stored};
-ghost use Rattle.desk.specs.Replies.{told, Replies, open_after, tour_after, stored_after};
+ghost use Rattle.desk.specs.Replies.{told, marked_reply, reply, open_after, tour_after, stored_after, home, is_open, tour_of, stored};
 
-use crate::questions::closed_reply;
 use crate::reply::Reply;
+use crate::state::Plan;
 use houses::house::House;
+use network::cable::MarkedCable;
 use network::refusal::Refusal;
 use plan::plan::{Closed, Open};
-use plan::state::Plan;
 use script::command::Command;
 
 fn told_of(answer: Result<u16, Refusal>) -> Reply
@@ -20,10 +19,19 @@ fn told_of(answer: Result<u16, Refusal>) -> Reply
     }
 }
 
+pub(crate) fn told_mark(answer: Option<MarkedCable>) -> Reply
+    ensures { result ≡ marked_reply answer }
+{
+    match answer {
+        Some(marked) => Reply::Marked(marked),
+        None => Reply::Absent,
+    }
+}
+
 /// Does what a command says on a plan, and gives the plan as it then is, with the answer. A command that the state does not
 /// allow changes nothing.
 pub fn play<H: House>(plan: Plan<H>, command: &Command) -> (Plan<H>, Reply)
-    ensures reply { Replies (is_open plan) (stored plan) (tour_of plan) command.now result.1 }
+    ensures reply { result.1 ≡ reply (is_open plan) (stored plan) (tour_of plan) command.now }
     ensures state { is_open result.0 ≡ open_after (is_open plan) command.now }
     ensures tour { tour_of result.0 ≡ tour_after (is_open plan) (tour_of plan) command.now }
     ensures stored { stored result.0 ≡ stored_after (H.House.cables (home plan) ++ tour_cables (tour_of plan)) (is_open plan) (stored plan) command.now }
@@ -42,12 +50,18 @@ pub fn play<H: House>(plan: Plan<H>, command: &Command) -> (Plan<H>, Reply)
             Command::Close => (Plan::Closed(open.close()), Reply::Closed),
             _ => (Plan::Open(open), Reply::NotNow),
         },
-        Plan::Closed(closed) => {
-            let reply = closed_reply(&closed, command);
-            match command {
-                Command::Reopen => (Plan::Open(closed.reopen()), reply),
-                _ => (Plan::Closed(closed), reply),
+        Plan::Closed(closed) => match command {
+            Command::Reopen => (Plan::Open(closed.reopen()), Reply::Open),
+            Command::Mark(place) => {
+                let answer = closed.mark(*place);
+                (Plan::Closed(closed), told_mark(answer))
             }
-        }
+            Command::Strength(_)
+            | Command::Group(_)
+            | Command::Run(_, _)
+            | Command::Cut(_)
+            | Command::Judge(_) => (Plan::Closed(closed), Reply::NotYet),
+            _ => (Plan::Closed(closed), Reply::NotNow),
+        },
     }
 }
