@@ -101,7 +101,7 @@ fn cables_told(rt: &HostRuntime) -> anyhow::Result<Vec<Ends>> {
 }
 
 // How often to close: what the first argument says, or once.
-fn closes_told(word: Option<String>) -> anyhow::Result<u32> {
+fn closes_asked(word: Option<String>) -> anyhow::Result<u32> {
     let Some(word) = word else {
         return Ok(1);
     };
@@ -141,7 +141,7 @@ fn task_told(rt: &HostRuntime) -> anyhow::Result<Task> {
     let mut words = env::args(rt)?;
     let _ = words.next();
     Ok(Task {
-        closes: closes_told(words.next())?,
+        closes: closes_asked(words.next())?,
         asks: asks_told(words.next())?,
         questions: questions_told(words.next())?,
     })
