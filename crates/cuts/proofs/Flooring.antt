@@ -2,7 +2,7 @@
 use Rattle.std.proofs.Common.{ℕ, Bool, List, Some, None, Option, ⊎_elim, arith, MatchOption}
 use Rattle.std.proofs.lemmas.List.Sums.{count_by-le-length}
 use Rattle.std.proofs.lemmas.Bool.{cases_lt}
-use Rattle.network.specs.Sets.{DeviceSet, crosses, crossings}
+use Rattle.network.specs.Sets.{DeviceSet, crosses}
 use Rattle.network.specs.declared.cable.Cable.{Cable}
 use Rattle.cuts.specs.Finding.{Finds, LeastSplit}
 use Rattle.cuts.specs.Members.{set_of}

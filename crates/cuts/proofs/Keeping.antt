@@ -1,14 +1,12 @@
 -- Keeping the cables of a set as links, by one more cable at a time; what is least over the links is least over the cables.
-use Rattle.std.proofs.Common.{◌≡◌, ℕ, ◌+◌, ◌<◌, ◌≤◌, Bool, true, false, ◌&&◌, List, length, get_or, take, set, Some, None, Option, sym, ap, ◌∙◌, subst, arith, MatchOption}
+use Rattle.std.proofs.Common.{◌≡◌, ℕ, ◌+◌, ◌<◌, ◌≤◌, Bool, true, false, ◌&&◌, List, length, get_or, take, set, sym, ap, ◌∙◌, subst, arith}
 use Rattle.std.proofs.ByRecursion.{All-push}
 use Rattle.std.proofs.lemmas.List.{take_more_set, length-set, length-take, take_all}
 use Rattle.std.proofs.lemmas.List.Sums.{sum_by_push, sum_by_more, count_by_more_no}
 use Rattle.std.proofs.lemmas.Bool.{and_parts, and_left}
-use Rattle.network.specs.Sets.{DeviceSet, belongs, differ, crosses, crossings}
+use Rattle.network.specs.Sets.{belongs, differ, crosses, crossings}
 use Rattle.network.specs.declared.cable.Cable.{Cable}
 use Rattle.cuts.specs.declared.adjacency.link.Link.{Link}
-use Rattle.cuts.specs.declared.finder.Cut.{Cut}
-use Rattle.cuts.specs.Members.{set_of}
 use Rattle.cuts.specs.Finding.{Finds}
 use Rattle.cuts.specs.Links.{Keeps, Ends, spans, across, one}
 use Rattle.cuts.specs.Groups.{Weakest}

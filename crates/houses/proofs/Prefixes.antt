@@ -1,11 +1,11 @@
 -- A prefix of a sheet that has room for 257 records has the fault of the whole. Assumes nothing.
-use Rattle.std.proofs.Common.{◌≡◌, ℕ, zero, suc, ◌+◌, ◌*◌, ◌<◌, ◌≤◌, Bool, true, false, cond, ltb, List, [], ◌∷◌, length, get_or, take, Ok, Err, Result, sym, refl, ap, ◌∙◌, subst, arith, ltb-false, le-ltb}
+use Rattle.std.proofs.Common.{◌≡◌, ℕ, zero, suc, ◌+◌, ◌*◌, ◌≤◌, Bool, true, false, cond, ltb, List, [], ◌∷◌, length, take, Ok, Err, Result, sym, refl, ap, ◌∙◌, subst, arith, ltb-false, le-ltb}
 use Rattle.std.proofs.lemmas.List.{get_or-take, length-take-le}
 use Rattle.network.specs.declared.refusal.Refusal.{Refusal}
 use Rattle.network.specs.declared.refusal.Refusal.TheVariants.{TooManyCables}
 use Rattle.houses.specs.Records.{front, body, span, spread}
 use Rattle.houses.specs.RecordRules.{front_sound}
-use Rattle.houses.specs.Sheets.{Meaning, before, read_record, read, meaning}
+use Rattle.houses.specs.Sheets.{Meaning, before, read_record, read}
 use Rattle.houses.specs.SheetLaws.{FirstFault}
 use Rattle.houses.specs.declared.misread.Misread.{Misread}
 use Rattle.houses.specs.declared.records.Record.{Record}

@@ -1,15 +1,14 @@
 -- A record that is read has a cable, all its cables are lawful, and its bytes are there. Assumes nothing.
 use Rattle.std.specs.Prelude.{◌≡◌, ℕ, suc, ◌+◌, ◌*◌, ◌<◌, ◌≤◌, Bool, true, false, cond, ◌&&◌, ◌||◌, List, length, Some, None, Ok, Err, Option, Result, ◌==◌, ◌≢◌, nat_le, nat_lt, slice_index, slice_index_or, refl}
-use Rattle.std.proofs.Common.{ap, sym, subst, ◌∙◌, arith, leb-true, ltb-false, eqb-true, le-leb, lt-ltb}
+use Rattle.std.proofs.Common.{sym, subst, ◌∙◌, arith, leb-true, ltb-false, eqb-true, le-leb, lt-ltb}
 use Rattle.std.proofs.lemmas.Bool.{true≢false, and_parts, and_from, or_parts, eqb-false}
 use Rattle.network.specs.Cables.{above, reach, fit_run, LawfulCable}
 use Rattle.network.specs.Refusals.{refuse}
-use Rattle.network.specs.declared.cable.Medium.{Medium}
 use Rattle.network.specs.declared.cable.Medium.TheVariants.{Copper, Fibre}
 use Rattle.network.specs.declared.cable.Run.{Run}
 use Rattle.network.specs.declared.refusal.Refusal.{Refusal}
 use Rattle.network.specs.declared.refusal.Refusal.TheVariants.{DeviceOutOfRange, SameEnds, RunOutOfRange, UnknownKind, BodyCutShort, BadChainOrStar}
-use Rattle.houses.specs.Records.{lawful_run, run_of, with_run, one_record, chain_record, star_record, front, body, span, link, Sound}
+use Rattle.houses.specs.Records.{lawful_run, run_of, with_run, one_record, chain_record, star_record, front, body, Sound}
 use Rattle.houses.specs.declared.records.Record.{Record}
 use Rattle.houses.specs.declared.records.Record.TheVariants.{One, Chain, Star}
 

@@ -9,13 +9,12 @@
 --   link r i                   cable i of a record
 --   spread r                   all its cables
 --   Sound r                    it has a cable, and all are lawful
-use Rattle.std.specs.Prelude.{ℕ, ◌+◌, ◌*◌, ◌<◌, ◌≤◌, Bool, cond, ◌&&◌, ◌||◌, List, map, length, Some, None, Ok, Err, Option, Result, ◌==◌, nat_le, nat_lt, slice_index}
+use Rattle.std.specs.Prelude.{ℕ, ◌+◌, ◌*◌, ◌<◌, ◌≤◌, cond, ◌&&◌, ◌||◌, List, map, length, Some, None, Ok, Err, Option, Result, ◌==◌, nat_le, nat_lt, slice_index}
 use Rattle.std.specs.List.{range_with_len}
 use Rattle.network.specs.Cables.{above, fit_run, LawfulCable}
 use Rattle.network.specs.Refusals.{refuse}
 use Rattle.network.specs.declared.cable.Cable.{Cable}
 use Rattle.network.specs.declared.cable.Run.{Run}
-use Rattle.network.specs.declared.cable.Medium.{Medium}
 use Rattle.network.specs.declared.cable.Medium.TheVariants.{Copper, Fibre}
 use Rattle.network.specs.declared.refusal.Refusal.{Refusal}
 use Rattle.network.specs.declared.refusal.Refusal.TheVariants.{DeviceOutOfRange, SameEnds, RunOutOfRange, UnknownKind, BodyCutShort, BadChainOrStar}

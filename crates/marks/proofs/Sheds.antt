@@ -1,13 +1,13 @@
 -- Parts, floors, and the marks that cuts give. Assumes nothing.
-use Rattle.std.proofs.Common.{◌≡◌, ℕ, ◌<◌, ◌≤◌, max, Bool, true, false, cond, eqb, ◌⊎◌, List, [], ◌∷◌, sym, refl, ap, ◌∙◌, subst, inl, inr, ⊎_elim, arith}
+use Rattle.std.proofs.Common.{◌≡◌, ℕ, ◌<◌, ◌≤◌, Bool, true, false, cond, eqb, ◌⊎◌, List, [], ◌∷◌, sym, ap, ◌∙◌, subst, inl, inr, ⊎_elim, arith}
 use Rattle.std.proofs.lemmas.Bool.{both_ways, and_parts, and_from, eqb-true, eq-eqb, cases_Bool, cases_lt, cases_eq, cond-true, cond-false}
 use Rattle.network.specs.Cables.{Lawful}
-use Rattle.network.specs.Sets.{DeviceSet, WeakSplit, Strength, crosses}
+use Rattle.network.specs.Sets.{DeviceSet, WeakSplit, crosses}
 use Rattle.network.specs.Lists.{member, Contains, ListStrength, Mark, ends}
 use Rattle.network.specs.Marks.{Marks}
 use Rattle.network.specs.declared.cable.Cable.{Cable}
 use Rattle.network.proofs.Sides.{same_or, crosses_belongs, crosses_from, crossings_wider, split_apart}
-use Rattle.network.proofs.Members.{here, there, one_has, two_has, only}
+use Rattle.network.proofs.Members.{here, there, two_has}
 use Rattle.network.proofs.Strengths.{weak_more, tied_less, list_strength}
 use Rattle.network.proofs.Searches.{each_device}
 use Rattle.network.proofs.Parts.{inside_says, inside_from, inside_devices}

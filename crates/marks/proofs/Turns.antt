@@ -13,8 +13,8 @@ use Rattle.network.proofs.Parts.{inside_says, inside_from}
 use Rattle.cuts.specs.Finding.{Finds}
 use Rattle.marks.specs.Shedding.{inside, Shear, Turn, Marking, Singles, Numbered}
 use Rattle.marks.specs.State.{number, moved, State, Done}
-use Rattle.marks.proofs.Sheds.{shed_none, shed_more, shed_marks, marks_all}
-use Rattle.marks.proofs.Numberings.{numbered_none, numbered_more, numbered_few}
+use Rattle.marks.proofs.Sheds.{shed_more, shed_marks, marks_all}
+use Rattle.marks.proofs.Numberings.{numbered_more, numbered_few}
 
 pub zeros : (n d : ℕ) → number (replicate n 0) d ≡ 0
 zeros n d = ⊎_elim (λ lt. get_or-replicate n d 0 0 lt) (λ le. get_or_past (replicate n 0) d 0 (omega (arith, length-replicate {A = ℕ} n 0))) (cases_lt d n)

@@ -3,7 +3,7 @@
 --   moved p q side r        the part r, or q where r is p and the side is true
 --   State cs part floor mark n   floors, marks and numbers of the parts are right
 --   Done part p             each part below p has one device at most
-use Rattle.std.specs.Prelude.{◌≡◌, ℕ, ◌<◌, Bool, cond, ◌&&◌, List, ◌==◌, slice_index}
+use Rattle.std.specs.Prelude.{ℕ, ◌<◌, Bool, cond, ◌&&◌, List, ◌==◌, slice_index}
 use Rattle.network.specs.Sheets.{Lone}
 use Rattle.network.specs.declared.cable.Cable.{Cable}
 use Rattle.marks.specs.Shedding.{Shed, MarkedApart, Numbered}

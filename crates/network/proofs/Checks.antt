@@ -1,5 +1,5 @@
 -- A cable that breaks no rule is lawful. Assumes nothing.
-use Rattle.std.proofs.Common.{◌≡◌, ℕ, ◌≤◌, Bool, true, false, not, ◌&&◌, ◌||◌, eqb, leb, Ok, Err, refl, arith, ltb-false, leb-true}
+use Rattle.std.proofs.Common.{◌≡◌, ℕ, Bool, true, false, not, ◌||◌, eqb, leb, Ok, Err, refl, arith, ltb-false, leb-true}
 use borrow.Author.Tests.{eqb-false}
 use Rattle.std.proofs.lemmas.Bool.{and_parts, or_parts}
 use Rattle.network.specs.Cables.{above, reach, fit_run, LawfulCable}

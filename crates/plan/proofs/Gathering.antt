@@ -1,11 +1,11 @@
 -- Gathering the cables present and tabulating them with their marks. Assumes nothing.
-use Rattle.std.proofs.Common.{◌≡◌, ℕ, zero, suc, ◌+◌, ◌<◌, ◌≤◌, Bool, true, false, List, [], ◌∷◌, ◌++◌, map, length, get_or, take, set, Some, None, Option, sym, refl, ap, ◌∙◌, subst, ap₂, append_assoc, arith}
+use Rattle.std.proofs.Common.{◌≡◌, ℕ, zero, suc, ◌+◌, ◌<◌, ◌≤◌, Bool, true, false, List, [], ◌∷◌, ◌++◌, length, get_or, take, set, Some, None, sym, refl, ap, ◌∙◌, ap₂, append_assoc, arith}
 use Rattle.std.proofs.lemmas.List.{take_all, take_more, take_more_set, map_more, get_or-take}
 use Rattle.std.proofs.lemmas.Option.{slice_get-get_or}
 use Rattle.std.specs.List.{slice_get}
 use Rattle.network.specs.Cables.{LawfulCable, Lawful}
 use Rattle.network.specs.Lists.{Mark, ends}
-use Rattle.network.specs.Marks.{Marks, OfDevices}
+use Rattle.network.specs.Marks.{Marks}
 use Rattle.network.specs.Figures.{strength_of}
 use Rattle.network.specs.declared.cable.Cable.{Cable}
 use Rattle.network.specs.declared.cable.MarkedCable.{MarkedCable}

@@ -1,5 +1,5 @@
 -- A tour in a table: finding a tag, the tests of a lay one after another, and closing up after a lift. Assumes nothing.
-use Rattle.std.proofs.Common.{◌≡◌, ℕ, zero, suc, ◌+◌, ◌-◌, ◌<◌, ◌≤◌, Bool, true, false, cond, not, ◌||◌, eqb, leb, List, [], ◌∷◌, ◌++◌, length, get_or, take, drop, set, is_some, Some, None, Ok, Err, Option, Result, sym, refl, ap, ◌∙◌, subst, ap₂, add-one, arith, length-drop, length-take-le, drop-cons, take-take, eq-eqb, ne_eqb}
+use Rattle.std.proofs.Common.{◌≡◌, ℕ, zero, suc, ◌+◌, ◌-◌, ◌<◌, ◌≤◌, Bool, true, false, cond, not, ◌||◌, eqb, leb, List, [], ◌∷◌, ◌++◌, length, get_or, take, drop, set, is_some, Some, None, Ok, Err, Option, sym, refl, ap, ◌∙◌, subst, ap₂, add-one, arith, length-drop, length-take-le, drop-cons, take-take, eq-eqb, ne_eqb}
 use borrow.Author.Tests.{lt-leb}
 use lib.Seq.{paste}
 use Rattle.std.proofs.lemmas.List.{drop-take, take_more_set, map_push}

@@ -6,7 +6,7 @@
 --   lay_after t tag c        the tally after it: the cable appended, or as it was
 --   lift_answer t tag        the new count, or that the tag is missing
 --   lift_after t tag         the tally after it: without the cable of the tag, the rest in their order, or as it was
-use Rattle.std.specs.Prelude.{ℕ, suc, ◌+◌, Bool, true, false, cond, not, ◌||◌, List, [], ◌∷◌, ◌++◌, map, length, take, is_some, Some, None, Ok, Err, Option, Result, ◌==◌, nat_le}
+use Rattle.std.specs.Prelude.{ℕ, suc, ◌+◌, cond, not, ◌||◌, List, [], ◌∷◌, ◌++◌, map, length, take, is_some, Some, None, Ok, Err, Option, Result, ◌==◌, nat_le}
 use Rattle.network.specs.Cables.{above, fit_run}
 use Rattle.network.specs.Refusals.{refuse}
 use Rattle.network.specs.declared.cable.Cable.{Cable}

@@ -1,6 +1,5 @@
 -- What is read of the words of a line, step by step. Assumes nothing.
 use Rattle.std.proofs.Common.{◌≡◌, ℕ, ◌+◌, ◌-◌, ◌<◌, ◌≤◌, leb, List, [], ◌∷◌, ◌++◌, map, length, get_or, drop, IsErrAnd, Ok, Err, Result, sym, refl, ap, ◌∙◌, subst, append_assoc, append-nil, arith, Bor}
-use Rattle.std.specs.List.{slice_get}
 use Rattle.std.proofs.lemmas.List.{length-map, get_or-map, drop_more, drop_all}
 use Rattle.std.proofs.lemmas.Option.{slice_get-get_or, slice_get_past}
 use Rattle.std.proofs.lemmas.Result.{err_from_is_err_and}
@@ -12,7 +11,7 @@ use Rattle.script.specs.declared.stop.Stop.{Stop}
 use Rattle.script.specs.declared.stop.Stop.TheVariants as stop
 use Rattle.script.specs.Numerals.{number}
 use Rattle.script.specs.Words.{text}
-use Rattle.script.specs.Arguments.{same, wrong, given, present, blamed, word_at, read_at, devices, devices_from, end_at, stop_at, Reads}
+use Rattle.script.specs.Arguments.{wrong, given, present, blamed, word_at, read_at, devices, devices_from, end_at, stop_at, Reads}
 
 -- the code stops at the word n where the line is wrong there
 pub stops : {X Y : Type 0} (f : X → Y) (e : Stop) (n : ℕ) (fault : Fault) (s : Result Y Mistake) → e ≡ stop_at n fault → s ≡ wrong n fault → Reads f (Err e) s

@@ -1,7 +1,6 @@
 -- The words of a line are its maximal runs, and these are one. Assumes nothing.
-use Rattle.std.proofs.Common.{◌≡◌, ℕ, suc, ◌<◌, true, false, cond, eqb, ◌⊎◌, List, [], ◌∷◌, ◌++◌, length, get_or, sym, refl, ap, ◌∙◌, subst, inl, inr, ⊎_elim, append-nil, arith}
-use Rattle.std.specs.Str.Iter.{LacksByte}
-use Rattle.std.proofs.lemmas.Bool.{eq-eqb, ne_eqb, cond-true, cond-false, cases_eq}
+use Rattle.std.proofs.Common.{◌≡◌, ℕ, suc, ◌<◌, eqb, List, [], ◌∷◌, ◌++◌, length, get_or, sym, refl, ap, ◌∙◌, subst, ⊎_elim, append-nil, arith}
+use Rattle.std.proofs.lemmas.Bool.{eq-eqb, cond-true, cases_eq}
 use Rattle.script.specs.Words.{begun, pieces, filled, words}
 use Rattle.script.specs.Laws.{Spaces, Word, Opens, Runs, over, next, WordsAreRuns, OneCut}
 use Rattle.script.proofs.Words.{pieces_whole, pieces_cut}

@@ -1,6 +1,6 @@
-use Rattle.std.proofs.Common.{◌≡◌, ◌<◌, ◌≤◌, length, sym, refl, ap, ◌∙◌, subst, inl, inr, arith}
+use Rattle.std.proofs.Common.{sym, refl, ◌∙◌, inl, inr, arith}
 use Rattle.std.proofs.lemmas.List.Sums.{count_by_more_yes, count_by_more_no}
-use Rattle.network.specs.Sheets.{leads_up, leading}
+use Rattle.network.specs.Sheets.{leads_up}
 use Rattle.plan.specs.Rows.{cables_in}
 use Rattle.plan.specs.Judging.{part_of, Sound}
 use Rattle.plan.proofs.Faults.{unused, row_lawful, leading_all, below_next}

@@ -1,4 +1,4 @@
-use Rattle.std.proofs.Common.{◌≡◌, ◌<◌, length, get_or, take, ap, arith}
+use Rattle.std.proofs.Common.{◌<◌, length, get_or, take, ap, arith}
 use Rattle.std.proofs.lemmas.List.{length-append, length-map, length-take-le}
 use Rattle.cuts.specs.Rigs.{rig_cables}
 use Rattle.plan.specs.Tally.{tour_cables}

@@ -1,4 +1,4 @@
-use Rattle.std.proofs.Common.{◌≡◌, ◌++◌, ap, ◌∙◌}
+use Rattle.std.proofs.Common.{◌++◌, ap, ◌∙◌}
 use Rattle.cuts.specs.Rigs.{rig_cables}
 use Rattle.marks.specs.State.{number}
 use Rattle.plan.specs.Rows.{cables_in}

@@ -1,11 +1,11 @@
-use Rattle.std.proofs.Common.{◌≡◌, ◌<◌, List, length, get_or, take, sym, ap, ◌∙◌, subst, arith}
+use Rattle.std.proofs.Common.{◌≡◌, ◌<◌, length, get_or, sym, ap, ◌∙◌, subst, arith}
 use Rattle.std.proofs.lemmas.List.{length-set, length-take-le}
 use Rattle.network.specs.Cables.{Lawful}
 use Rattle.network.specs.declared.cable.MarkedCable.{MarkedCable}
 use Rattle.network.proofs.Places.{blank}
 use Rattle.cuts.specs.Rigs.{rig_cables}
 use Rattle.marks.specs.State.{number}
-use Rattle.plan.specs.Rows.{cables_in, Marked, mark_rows}
+use Rattle.plan.specs.Rows.{cables_in, Marked}
 use Rattle.plan.proofs.Gathering.{rows_more, rows_all, rows_marked, cables_rows}
 use Rattle.plan.proofs.marking.tabulate.Goals as goal
 

@@ -1,5 +1,5 @@
 use Rattle.std.proofs.Common.{ap, ◌∙◌}
-use Rattle.script.specs.Arguments.{same, blamed, yardstick}
+use Rattle.script.specs.Arguments.{same, blamed}
 use Rattle.script.proofs.Arguments.{stops, given_ok}
 use Rattle.script.proofs.Verbs.{other}
 use Rattle.script.proofs.argument.yardstick_at.Goals as goal

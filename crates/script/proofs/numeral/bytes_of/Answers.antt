@@ -1,4 +1,4 @@
-use Rattle.std.proofs.Common.{◌≡◌, ◌+◌, ◌*◌, ◌≤◌, length, is_ok, refl, ap, arith, rules}
+use Rattle.std.proofs.Common.{◌+◌, ◌*◌, ◌≤◌, length, is_ok, ap, rules}
 use Rattle.std.proofs.ResultArms.{chosen}
 use Rattle.script.proofs.Numerals.{one_byte}
 use Rattle.script.proofs.numeral.bytes_of.Goals as goal

@@ -1,4 +1,4 @@
-use Rattle.std.proofs.Common.{is_ok, sym, refl, ap, ◌∙◌, subst, arith, true-eqb, false-eqb}
+use Rattle.std.proofs.Common.{is_ok, sym, ap, ◌∙◌, subst, true-eqb, false-eqb}
 use Rattle.std.proofs.ResultArms.{chosen}
 use Rattle.std.specs.Str.Iter.{split_text, split_has_more, split_pattern}
 use Rattle.script.proofs.Words.{Sofar, at_start, past_gap, one_more, all_found}

@@ -1,4 +1,4 @@
-use Rattle.std.proofs.Common.{◌-◌, ◌≤◌, subst, arith, rules}
+use Rattle.std.proofs.Common.{◌-◌, ◌≤◌, subst, arith}
 use Rattle.cuts.specs.Members.{set_of}
 use Rattle.cuts.specs.Links.{flagged, Keeps}
 use Rattle.cuts.specs.Groups.{Numbered}

@@ -1,7 +1,6 @@
-use Rattle.std.proofs.Common.{◌≡◌, ◌<◌, subst, arith}
+use Rattle.std.proofs.Common.{subst, arith}
 use Rattle.network.specs.Cables.{LawfulCable}
 use Rattle.houses.specs.Records.{link}
-use Rattle.houses.specs.declared.records.Record.{Record}
 use Rattle.houses.proofs.records.Record.cable.Goals as goal
 
 pub overflow_add-a : goal.overflow_add-a

@@ -1,4 +1,4 @@
-use Rattle.std.proofs.Common.{◌≡◌, sym, ap, ◌∙◌}
+use Rattle.std.proofs.Common.{sym, ap, ◌∙◌}
 use Rattle.houses.specs.Shifts.{shifted}
 use Rattle.network.proofs.ListPlaces.{mapped, nth_map}
 use Rattle.houses.proofs.shift.ShiftHouse.cable.Goals as goal

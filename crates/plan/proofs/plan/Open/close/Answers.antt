@@ -1,4 +1,4 @@
-use Rattle.std.proofs.Common.{◌≡◌, refl, subst}
+use Rattle.std.proofs.Common.{refl, subst}
 use Rattle.network.specs.Lists.{Mark}
 use Rattle.plan.specs.Tables.{rows_of}
 use Rattle.plan.proofs.Gathering.{row_mark}

@@ -1,4 +1,4 @@
-use Rattle.std.proofs.Common.{◌≡◌, ◌+◌, None, Ok, sym, ap, ◌∙◌, arith}
+use Rattle.std.proofs.Common.{◌+◌, None, Ok, sym, ap, ◌∙◌, arith}
 use Rattle.std.proofs.lemmas.List.{take_more_set, length-set}
 use Rattle.plan.specs.Tally.{laid, appended}
 use Rattle.plan.specs.declared.tour.TourCable.{TourCable}

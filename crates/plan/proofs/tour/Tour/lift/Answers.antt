@@ -1,4 +1,4 @@
-use Rattle.std.proofs.Common.{◌≡◌, ℕ, ◌+◌, ◌-◌, ◌<◌, not, length, take, is_some, Some, None, Ok, Err, Option, sym, ap, ◌∙◌, subst, arith, rules}
+use Rattle.std.proofs.Common.{◌≡◌, ℕ, ◌-◌, ◌<◌, not, length, take, is_some, Some, None, Ok, Option, sym, ap, ◌∙◌, subst, arith, rules}
 use Rattle.network.specs.Cables.{Lawful}
 use Rattle.network.specs.Refusals.{refuse}
 use Rattle.network.specs.declared.refusal.Refusal.TheVariants.{TagMissing}
