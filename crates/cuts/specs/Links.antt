@@ -13,7 +13,7 @@
 --   Ends L S ls         each end of each link is of S, by its label
 --   Keeps cs S ls n     the first n of the links are the cables that belong to S
 use Rattle.std.specs.Prelude.{◌≡◌, ℕ, ◌+◌, ◌*◌, ◌<◌, ◌≤◌, Bool, true, false, cond, ◌&&◌, List, length, take, count_by, ◌==◌, nat_eq, slice_index, slice_index_or}
-use Rattle.std.specs.List.{AllByRecursion as All}
+use Rattle.std.specs.List.{AllByRecursion}
 use Rattle.network.specs.Sets.{differ, crossings}
 use Rattle.network.specs.declared.cable.Cable.{Cable}
 use Rattle.cuts.specs.declared.adjacency.link.Link.{Link}
@@ -49,7 +49,7 @@ abbrev pub degree : (ℕ → ℕ) → List Link → ℕ → ℕ
 degree L ls x = across (λ d. nat_eq (L d) x) ls
 
 abbrev pub Ends : (ℕ → ℕ) → (ℕ → Bool) → List Link → Type 0
-Ends L S ls = All (λ l. (S (L l.a) ≡ true) × (S (L l.b) ≡ true)) ls
+Ends L S ls = AllByRecursion (λ l. (S (L l.a) ≡ true) × (S (L l.b) ≡ true)) ls
 
 pub record Keeps (cs : List Cable) (S : ℕ → Bool) (links : List Link) (n : ℕ) : Type 0 where
   pub fits : n ≤ length cs
