@@ -1,10 +1,8 @@
-// Closes a plan as often as its first argument says, and tells the sum of the marks. Where there is a second argument, it asks the closed
-// plan as often as that says, and tells the sums of the answers; a third argument, `strength`, `group` or `run`, asks that alone. The
-// cables come from standard input, a line `A B` for each: the first 256 are the house's, the others the tour's.
+// Closes a plan as often as its argument says, and tells the sum of the marks. The cables come from standard input, a line
+// `A B` for each: the first 256 are the house's, the others the tour's.
 #![tactic(auto)]
 
 use anyhow::anyhow;
-use forest::yardstick::Plain;
 use houses::house::House;
 use houses::sheet::Sheet;
 use network::cable::{Medium, Run};
@@ -33,35 +31,10 @@ struct Ends {
     b: u8,
 }
 
-/// The questions to ask.
-#[derive(Clone, Copy, PartialEq, Eq)]
-enum Questions {
-    All,
-    Strength,
-    Group,
-    Run,
-}
-
-/// What to do, and how often.
-#[derive(Clone, Copy)]
-struct Task {
-    closes: u32,
-    asks: Option<u32>,
-    questions: Questions,
-}
-
-/// The sums of what was answered: strengths, sizes of groups, and lengths of runs.
-#[derive(Clone, Copy)]
-struct Sums {
-    strengths: u64,
-    groups: u64,
-    runs: u64,
-}
-
 /// What a closed plan tells: how many cables it has, and the sum of their marks.
 #[derive(Clone, Copy)]
 struct Told {
-    count: u16,
+    cables: u16,
     marks: u64,
 }
 
@@ -101,8 +74,10 @@ fn cables_told(rt: &HostRuntime) -> anyhow::Result<Vec<Ends>> {
 }
 
 // How often to close: what the first argument says, or once.
-fn closes_asked(word: Option<String>) -> anyhow::Result<u32> {
-    let Some(word) = word else {
+fn closes_asked(rt: &HostRuntime) -> anyhow::Result<u32> {
+    let mut words = env::args(rt)?;
+    let _ = words.next();
+    let Some(word) = words.next() else {
         return Ok(1);
     };
     match word.as_str().parse::<u32>() {
@@ -110,41 +85,6 @@ fn closes_asked(word: Option<String>) -> anyhow::Result<u32> {
         Ok(times) => Ok(times),
         Err(_) => Err(anyhow!("the first argument is how often to close")),
     }
-}
-
-// How often to ask: what the second argument says; none where there is no such argument.
-fn asks_told(word: Option<String>) -> anyhow::Result<Option<u32>> {
-    let Some(word) = word else {
-        return Ok(None);
-    };
-    match word.as_str().parse::<u32>() {
-        Ok(times) => Ok(Some(times)),
-        Err(_) => Err(anyhow!("the second argument is how often to ask")),
-    }
-}
-
-// Which questions an argument names: all where there is none.
-fn questions_told(word: Option<String>) -> anyhow::Result<Questions> {
-    let Some(word) = word else {
-        return Ok(Questions::All);
-    };
-    match word.as_str() {
-        "strength" => Ok(Questions::Strength),
-        "group" => Ok(Questions::Group),
-        "run" => Ok(Questions::Run),
-        _ => Err(anyhow!("the third argument is strength, group or run")),
-    }
-}
-
-// What the arguments ask for.
-fn task_told(rt: &HostRuntime) -> anyhow::Result<Task> {
-    let mut words = env::args(rt)?;
-    let _ = words.next();
-    Ok(Task {
-        closes: closes_asked(words.next())?,
-        asks: asks_told(words.next())?,
-        questions: questions_told(words.next())?,
-    })
 }
 
 // The sheet of the house's cables: a record of one cable for each.
@@ -169,117 +109,41 @@ fn lay_tour<H: House>(heap: Global, plan: &mut Open<H>, cables: &[Ends]) -> anyh
 }
 
 fn told_by<H: House>(closed: &Closed<H>) -> Told {
-    let count = closed.count();
+    let cables = closed.count();
     let mut marks: u64 = 0;
-    for place in 0..count {
+    for place in 0..cables {
         if let Some(marked) = closed.mark(place) {
             marks = marks.saturating_add(u64::from(marked.mark));
         }
     }
-    Told { count, marks }
+    Told { cables, marks }
 }
 
-// Closes the plan so many times, once at least, and reopens it between.
-fn close_often<H: House>(plan: Open<H>, times: u32) -> Closed<H> {
+// Closes the plan so many times, and reopens it between; what it tells after the last.
+fn close_often<H: House + Drop>(plan: Open<H>, times: u32) -> Told {
     let mut closed = plan.close();
     for _ in 1..times {
         closed = closed.reopen().close();
     }
-    closed
+    told_by(&closed)
 }
 
-// The strength of a list, 0 for apart.
-fn strength_told<H: House>(closed: &Closed<H>, list: &[u8]) -> u64 {
-    match closed.strength(list) {
-        Ok(Some(strength)) => u64::from(strength),
-        _ => 0,
-    }
-}
-
-// The size of a list's group, 0 for apart.
-fn group_told<H: House>(closed: &Closed<H>, list: &[u8]) -> u64 {
-    let mut buffer = [0u8; 128];
-    match closed.group(list, &mut buffer) {
-        Ok(Some((_, count))) => u64::from(count),
-        _ => 0,
-    }
-}
-
-// The length of the poorest run, 0 for apart.
-fn run_told<H: House>(closed: &Closed<H>, list: &[u8]) -> u64 {
-    match closed.run(list, &Plain) {
-        Ok(Some(run)) => u64::from(run.length),
-        _ => 0,
-    }
-}
-
-// The list of the n-th question: the two ends of a cable, and an end of another.
-fn list_at(cables: &[Ends], n: usize) -> [u8; 3] {
-    let many = cables.len();
-    if many == 0 {
-        return [0, 1, 2];
-    }
-    let near = cables[n % many];
-    let far = cables[n.wrapping_mul(7).wrapping_add(3) % many];
-    [near.a, near.b, far.a]
-}
-
-// Asks so many lists.
-fn ask_often<H: House>(
-    closed: &Closed<H>,
-    cables: &[Ends],
-    asks: u32,
-    questions: Questions,
-) -> Sums {
-    let mut strengths: u64 = 0;
-    let mut groups: u64 = 0;
-    let mut runs: u64 = 0;
-    for n in 0..asks {
-        let list = list_at(cables, n as usize);
-        if questions == Questions::All || questions == Questions::Strength {
-            strengths = strengths.saturating_add(strength_told(closed, &list));
-        }
-        if questions == Questions::All || questions == Questions::Group {
-            groups = groups.saturating_add(group_told(closed, &list));
-        }
-        if questions == Questions::All || questions == Questions::Run {
-            runs = runs.saturating_add(run_told(closed, &list));
-        }
-    }
-    Sums {
-        strengths,
-        groups,
-        runs,
-    }
-}
-
-// Begins a plan over the house, lays the tour, closes often, asks often and writes what is told.
+// Begins a plan over the house, lays the tour, closes often and writes what it tells.
 fn tell<H: House + Drop>(
     rt: &HostRuntime,
     house: H,
-    cables: &[Ends],
-    task: Task,
+    tour: &[Ends],
+    times: u32,
 ) -> anyhow::Result<()> {
     let mut plan = Open::begin(house);
-    lay_tour(rt.alloc(), &mut plan, cables)?;
-    let closed = close_often(plan, task.closes);
-    let Told { count, marks } = told_by(&closed);
-    let closes = task.closes;
-    println!(rt; "cables {count} closes {closes} marks {marks}")?;
-    let Some(asks) = task.asks else {
-        return Ok(());
-    };
-    let Sums {
-        strengths,
-        groups,
-        runs,
-    } = ask_often(&closed, cables, asks, task.questions);
-    println!(rt; "asks {asks} strengths {strengths} groups {groups} runs {runs}")?;
+    lay_tour(rt.alloc(), &mut plan, tour)?;
+    let Told { cables, marks } = close_often(plan, times);
+    println!(rt; "cables {cables} closes {times} marks {marks}")?;
     Ok(())
 }
 
 fn run(rt: &HostRuntime) -> anyhow::Result<()> {
-    let task = task_told(rt)?;
+    let times = closes_asked(rt)?;
     let cables = cables_told(rt)?;
     let bytes = sheet_of(rt.alloc(), cables.as_slice())?;
     let mut sheet = Sheet::empty();
@@ -289,7 +153,7 @@ fn run(rt: &HostRuntime) -> anyhow::Result<()> {
         println!(rt; "the sheet is refused at byte {place}: {cause:?}")?;
         return Ok(());
     }
-    tell(rt, sheet, cables.as_slice(), task)
+    tell(rt, sheet, cables.as_slice(), times)
 }
 
 fn main(rt: HostRuntime) -> anyhow::Result<()> {

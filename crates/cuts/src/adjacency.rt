@@ -21,8 +21,8 @@ mod weights;
 
 /// The lesser of the best split so far and the split of the lightest label.
 fn lesser(best: Cut, degrees: &[u16; 128], labels: &[u8; 128], n: u8) -> Cut
-    requires le_n { 1 ≤ n }
-    requires n_bound { n ≤ 128 }
+    requires some { 1 ≤ n }
+    requires fits { n ≤ 128 }
     ensures { Lesser degrees.now labels.now n best result }
 {
     let x = lightest(degrees, n);
@@ -38,12 +38,12 @@ fn lesser(best: Cut, degrees: &[u16; 128], labels: &[u8; 128], n: u8) -> Cut
 
 /// The groups after one phase: fewer, with no split lost that fewer than `best` links cross.
 fn coarser(links: &[Link], groups: &Groups, degrees: &[u16; 128], best: u16) -> Groups
-    requires links_len_bound { length links.now ≤ 512 }
-    requires le_len { 2 ≤ groups.now.len }
-    requires len_bound { groups.now.len ≤ 128 }
-    requires by_index { (d : ℕ) → d < 128 → slice_index groups.now.labels d < groups.now.len }
-    requires by_index_2 { (v : ℕ) → v < 128 → slice_index degrees.now v ≡ degree (label groups.now.labels) links.now v }
-    requires by_index_3 { (k : ℕ) → k < groups.now.len → best ≤ slice_index degrees.now k }
+    requires few { length links.now ≤ 512 }
+    requires two { 2 ≤ groups.now.len }
+    requires fits { groups.now.len ≤ 128 }
+    requires numbered { (d : ℕ) → d < 128 → slice_index groups.now.labels d < groups.now.len }
+    requires counted { (v : ℕ) → v < 128 → slice_index degrees.now v ≡ degree (label groups.now.labels) links.now v }
+    requires least { (k : ℕ) → k < groups.now.len → best ≤ slice_index degrees.now k }
     ensures { Coarser links.now best groups.now result }
 {
     let f = shrink(links, &groups.labels, degrees, groups.len, best);

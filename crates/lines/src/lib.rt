@@ -1,7 +1,7 @@
 // Lines of text, written into a caller's buffer.
 #![tactic(auto)]
 
-ghost use Rattle.std.specs.Prelude.{◌≡◌, ◌+◌, ◌<◌, ◌≤◌, ltb, [], ◌∷◌, ◌++◌, length, drop, if◌then◌else◌, Ok, decimal, nat_lt};
+ghost use Rattle.std.specs.Prelude.{◌≡◌, ◌+◌, ◌<◌, ◌≤◌, [], ◌∷◌, ◌++◌, length, drop, if◌then◌else◌, Ok, decimal, nat_lt};
 ghost use Rattle.network.specs.Refusals.{refuse};
 ghost use Rattle.network.specs.declared.refusal.Refusal.TheVariants.{BufferTooShort};
 ghost use Rattle.lines.specs.Lines.{field, mark_text, refusal_text};
@@ -18,7 +18,7 @@ const ROOM: usize = 128;
 /// Refused, with the buffer unchanged, where the buffer has fewer than 128 bytes. Allocates nothing.
 pub fn mark_line(place: u16, marked: MarkedCable, buffer: &mut [u8]) -> Result<usize, Refusal>
     ensures answer { result ≡ refuse BufferTooShort (nat_lt (length buffer.old) 128) (Ok (length (mark_text place marked))) }
-    ensures after { buffer.new ≡ (if ltb (length buffer.old) 128 then buffer.old else mark_text place marked ++ drop (length (mark_text place marked)) buffer.old) }
+    ensures after { buffer.new ≡ (if nat_lt (length buffer.old) 128 then buffer.old else mark_text place marked ++ drop (length (mark_text place marked)) buffer.old) }
 {
     if buffer.len() < ROOM {
         return Err(Refusal::BufferTooShort);
@@ -35,7 +35,7 @@ pub fn mark_line(place: u16, marked: MarkedCable, buffer: &mut [u8]) -> Result<u
 /// Refused, with the buffer unchanged, where the buffer has fewer than 128 bytes. Allocates nothing.
 pub fn refusal_line(number: u16, place: u16, buffer: &mut [u8]) -> Result<usize, Refusal>
     ensures answer { result ≡ refuse BufferTooShort (nat_lt (length buffer.old) 128) (Ok (length (refusal_text number place))) }
-    ensures after { buffer.new ≡ (if ltb (length buffer.old) 128 then buffer.old else refusal_text number place ++ drop (length (refusal_text number place)) buffer.old) }
+    ensures after { buffer.new ≡ (if nat_lt (length buffer.old) 128 then buffer.old else refusal_text number place ++ drop (length (refusal_text number place)) buffer.old) }
 {
     if buffer.len() < ROOM {
         return Err(Refusal::BufferTooShort);

@@ -13,9 +13,9 @@
 --   strength_of cs l     the highest strength of a set that contains the list
 --   strongest cs l S     S has the strength of the list, as a test
 --   group_of cs l        the devices of all sets that contain the list and have its strength
---   SetStrength         each set of devices has that strength
---   HasStrength         each list of devices has that strength
---   HasGroup            each list that names a device, and devices only, has that group
+--   SetStrength          each set of devices has that strength
+--   HasStrength          each list of devices has that strength
+--   HasGroup             each list that names a device, and devices only, has that group
 use Rattle.std.specs.Prelude.{◌≡◌, ℕ, zero, suc, min, max, Bool, true, false, not, ◌&&◌, ◌||◌, List, [], ◌∷◌, ◌++◌, map, length, filter, ◌==◌}
 use Rattle.network.specs.Sets.{DeviceSet, Strength, crossings}
 use Rattle.network.specs.Lists.{member, ListStrength, Group}

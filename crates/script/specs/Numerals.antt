@@ -1,8 +1,8 @@
 -- Decimal numbers and hexadecimal bytes. Assumes nothing.
---   digitValue c        the value of the digit c: 0 to 9, and from 10 on for letters of either case; 36 for any other byte
+--   digit_value c       the value of the digit c: 0 to 9, and from 10 on for letters of either case; 36 for any other byte
 --   digits_only r w     every byte of w is a digit of the radix r
 --   nonempty w          w has a byte
---   value 10 w          the number that the decimal digits of w write
+--   digits_value 10 w   the number that the decimal digits of w write
 --   number_within l w   that number, if it is at most l
 --   number limit w      that number, where w is one or more decimal digits and the number is at most the limit
 --   hexadecimal w       w is an even number of hexadecimal digits, and some

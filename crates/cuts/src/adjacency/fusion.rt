@@ -18,8 +18,8 @@ pub struct Fusion {
 
 /// Fuses each label that weighed `best` or more with the one placed before it.
 fn fuse(links: &[Link], labels: &[u8; 128], o: &Placed, n: u8, best: u16) -> Fusion
-    requires le_n { 2 ≤ n }
-    requires n_bound { n ≤ 128 }
+    requires two { 2 ≤ n }
+    requires fits { n ≤ 128 }
     requires ordered { Ordered (label labels.now) links.now (under n) o.now.places o.now.weights n }
     ensures { Fused (label labels.now) links.now n best (slice_index o.now.weights (n - 1)) result.into result.firsts result.len }
 {
@@ -56,9 +56,9 @@ fn identity() -> [u8; 128]
 
 /// Whether neither label is used yet, and half of the first one's links go to the second.
 fn may_pair(m: &[u16; 16384], degrees: &[u16; 128], used: &[bool; 128], a: u8, b: u8) -> bool
-    requires a_bound { a < 128 }
-    requires b_bound { b < 128 }
-    requires b_bound_2 { cell m.now a b ≤ 512 }
+    requires low { a < 128 }
+    requires high { b < 128 }
+    requires few { cell m.now a b ≤ 512 }
     ensures { result ≡ pairs m.now degrees.now used.now a b }
 {
     let k = m[a as usize * 128 + b as usize];
@@ -74,11 +74,11 @@ fn pair_up(
     n: u8,
     best: u16,
 ) -> [u8; 128]
-    requires links_len_bound { length links.now ≤ 512 }
-    requires n_bound { n ≤ 128 }
-    requires by_index { (d : ℕ) → d < 128 → slice_index labels.now d < n }
-    requires by_index_2 { (v : ℕ) → v < 128 → slice_index degrees.now v ≡ degree (label labels.now) links.now v }
-    requires by_index_3 { (k : ℕ) → k < n → best ≤ slice_index degrees.now k }
+    requires few { length links.now ≤ 512 }
+    requires fits { n ≤ 128 }
+    requires numbered { (d : ℕ) → d < 128 → slice_index labels.now d < n }
+    requires counted { (v : ℕ) → v < 128 → slice_index degrees.now v ≡ degree (label labels.now) links.now v }
+    requires least { (k : ℕ) → k < n → best ≤ slice_index degrees.now k }
     requires matrix { Matrix (label labels.now) links.now m.now }
     ensures moved { Moved (label labels.now) links.now n best result }
     ensures low { (x : ℕ) → x < 128 → slice_index result x < 128 }
@@ -112,12 +112,12 @@ fn roots(to: &[u8; 128], n: u8) -> [bool; 128]
 /// Fewer labels, with no split lost that fewer than `best` links cross. An order fuses most rigs fast; where it leaves
 /// more than half of the labels, as in a ring, pairing may leave fewer.
 pub fn shrink(links: &[Link], labels: &[u8; 128], degrees: &[u16; 128], n: u8, best: u16) -> Fusion
-    requires links_len_bound { length links.now ≤ 512 }
-    requires le_n { 2 ≤ n }
-    requires n_bound { n ≤ 128 }
-    requires by_index { (d : ℕ) → d < 128 → slice_index labels.now d < n }
-    requires by_index_2 { (v : ℕ) → v < 128 → slice_index degrees.now v ≡ degree (label labels.now) links.now v }
-    requires by_index_3 { (k : ℕ) → k < n → best ≤ slice_index degrees.now k }
+    requires few { length links.now ≤ 512 }
+    requires two { 2 ≤ n }
+    requires fits { n ≤ 128 }
+    requires numbered { (d : ℕ) → d < 128 → slice_index labels.now d < n }
+    requires counted { (v : ℕ) → v < 128 → slice_index degrees.now v ≡ degree (label labels.now) links.now v }
+    requires least { (k : ℕ) → k < n → best ≤ slice_index degrees.now k }
     ensures { Fused (label labels.now) links.now n best best result.into result.firsts result.len }
 {
     let mut m = [0u16; 16384];

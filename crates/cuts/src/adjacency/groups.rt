@@ -44,8 +44,8 @@ pub fn relabel(labels: &[u8; 128], into: &[u8; 128]) -> [u8; 128]
 
 /// A device of each of n labels, from the first label that became it.
 pub fn first_reps(reps: &[u8; 128], firsts: &[u8; 128], n: u8) -> [u8; 128]
-    requires n_bound { n ≤ 128 }
-    requires by_index { (y : ℕ) → y < n → slice_index firsts.now y < 128 }
+    requires fits { n ≤ 128 }
+    requires low { (y : ℕ) → y < n → slice_index firsts.now y < 128 }
     ensures { (y : ℕ) → y < n → slice_index result y ≡ slice_index reps.now (slice_index firsts.now y) }
 {
     let mut out = [0u8; 128];

@@ -64,9 +64,9 @@ pub struct Placed {
 /// A maximum adjacency order of the labels below n: each in its turn has the most links to those placed before it.
 /// A label that is not placed yet has 2048 above its weight, so that one search for the greatest finds it.
 pub fn order(links: &[Link], labels: &[u8; 128], m: &[u16; 16384], n: u8) -> Placed
-    requires links_len_bound { length links.now ≤ 512 }
+    requires few { length links.now ≤ 512 }
     requires matrix { Matrix (label labels.now) links.now m.now }
-    requires n_bound { n ≤ 128 }
+    requires fits { n ≤ 128 }
     ensures { Ordered (label labels.now) links.now (under n) result.places result.weights n }
 {
     let mut left = flags_below(n);

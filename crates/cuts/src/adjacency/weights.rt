@@ -5,9 +5,9 @@ use crate::adjacency::link::Link;
 
 /// Adds one at row x, column v.
 fn bump(m: &mut [u16; 16384], x: u8, v: u8)
-    requires x_bound { x < 128 }
-    requires v_bound { v < 128 }
-    requires by_index { (y u : ℕ) → y < 128 → u < 128 → cell m.old y u ≤ 1024 }
+    requires row { x < 128 }
+    requires column { v < 128 }
+    requires room { (y u : ℕ) → y < 128 → u < 128 → cell m.old y u ≤ 1024 }
     ensures { (y u : ℕ) → y < 128 → u < 128 → cell m.new y u ≡ cell m.old y u + one (y == x && u == v) }
 {
     m[x as usize * 128 + v as usize] += 1;
@@ -15,8 +15,8 @@ fn bump(m: &mut [u16; 16384], x: u8, v: u8)
 
 /// Counts a link into the matrix.
 fn add_link(l: &Link, labels: &[u8; 128], m: &mut [u16; 16384])
-    requires by_index { (d : ℕ) → d < 128 → slice_index labels.now d < 128 }
-    requires by_index_2 { (y u : ℕ) → y < 128 → u < 128 → cell m.old y u ≤ 1000 }
+    requires low { (d : ℕ) → d < 128 → slice_index labels.now d < 128 }
+    requires room { (y u : ℕ) → y < 128 → u < 128 → cell m.old y u ≤ 1000 }
     ensures { (y u : ℕ) → y < 128 → u < 128 → cell m.new y u ≡ cell m.old y u + one (joins (label labels.now) y u l.now) }
 {
     let a = labels[l.a as usize];
@@ -29,9 +29,9 @@ fn add_link(l: &Link, labels: &[u8; 128], m: &mut [u16; 16384])
 
 /// Counts the links between each two labels into a matrix of zeros, 128 rows of 128.
 pub fn add_links(links: &[Link], labels: &[u8; 128], m: &mut [u16; 16384])
-    requires links_len_bound { length links.now ≤ 512 }
-    requires by_index { (d : ℕ) → d < 128 → slice_index labels.now d < 128 }
-    requires by_index_2 { (y u : ℕ) → y < 128 → u < 128 → cell m.old y u ≡ 0 }
+    requires few { length links.now ≤ 512 }
+    requires low { (d : ℕ) → d < 128 → slice_index labels.now d < 128 }
+    requires empty { (y u : ℕ) → y < 128 → u < 128 → cell m.old y u ≡ 0 }
     ensures { Matrix (label labels.now) links.now m.new }
 {
     for l in links {
@@ -41,9 +41,9 @@ pub fn add_links(links: &[Link], labels: &[u8; 128], m: &mut [u16; 16384])
 
 /// Adds row x of the matrix to the weights.
 pub fn add_row(m: &[u16; 16384], x: u8, w: &mut [u16; 128])
-    requires x_bound { x < 128 }
-    requires by_index { (v : ℕ) → v < 128 → cell m.now x v ≤ 512 }
-    requires by_index_2 { (v : ℕ) → v < 128 → slice_index w.old v ≤ 4096 }
+    requires row { x < 128 }
+    requires few { (v : ℕ) → v < 128 → cell m.now x v ≤ 512 }
+    requires room { (v : ℕ) → v < 128 → slice_index w.old v ≤ 4096 }
     ensures { (v : ℕ) → v < 128 → slice_index w.new v ≡ slice_index w.old v + cell m.now x v }
 {
     let from = x as usize * 128;
@@ -54,8 +54,8 @@ pub fn add_row(m: &[u16; 16384], x: u8, w: &mut [u16; 128])
 
 /// Counts a link into the degrees of what it joins.
 fn add_degree(l: &Link, labels: &[u8; 128], degrees: &mut [u16; 128])
-    requires by_index { (d : ℕ) → d < 128 → slice_index labels.now d < 128 }
-    requires by_index_2 { (v : ℕ) → v < 128 → slice_index degrees.old v ≤ 1024 }
+    requires low { (d : ℕ) → d < 128 → slice_index labels.now d < 128 }
+    requires room { (v : ℕ) → v < 128 → slice_index degrees.old v ≤ 1024 }
     ensures { (v : ℕ) → v < 128 → slice_index degrees.new v ≡ slice_index degrees.old v + one (spans (λ d. nat_eq (label labels.now d) v) l.now) }
 {
     let a = labels[l.a as usize];
@@ -68,8 +68,8 @@ fn add_degree(l: &Link, labels: &[u8; 128], degrees: &mut [u16; 128])
 
 /// The degree of each label.
 pub fn all_degrees(links: &[Link], labels: &[u8; 128]) -> [u16; 128]
-    requires links_len_bound { length links.now ≤ 512 }
-    requires by_index { (d : ℕ) → d < 128 → slice_index labels.now d < 128 }
+    requires few { length links.now ≤ 512 }
+    requires low { (d : ℕ) → d < 128 → slice_index labels.now d < 128 }
     ensures { (v : ℕ) → v < 128 → slice_index result v ≡ degree (label labels.now) links.now v }
 {
     let mut degrees = [0u16; 128];
@@ -81,8 +81,8 @@ pub fn all_degrees(links: &[Link], labels: &[u8; 128]) -> [u16; 128]
 
 /// One of the least of the first n.
 pub fn lightest(w: &[u16; 128], n: u8) -> u8
-    requires le_n { 1 ≤ n }
-    requires n_bound { n ≤ 128 }
+    requires some { 1 ≤ n }
+    requires fits { n ≤ 128 }
     ensures low { result < n }
     ensures least { (k : ℕ) → k < n → slice_index w.now result ≤ slice_index w.now k }
 {

@@ -6,7 +6,7 @@ use Rattle.cuts.proofs.Fusing.{upon_none, upon_new, upon_same, upon_all, upon_at
 use Rattle.cuts.proofs.adjacency.fusion.fuse.Goals.{then-o-i, else-o-i}
 
 pub loop-i-init : goal.loop-i-init
-loop-i-init c = upon_none (label c.args.labels.now) c.args.links.now c.args.best _ _ _ c.requires.ordered c.requires.le_n
+loop-i-init c = upon_none (label c.args.labels.now) c.args.links.now c.args.best _ _ _ c.requires.ordered c.requires.two
 
 pub loop-i-preserved : goal.loop-i-preserved
 loop-i-preserved c =
@@ -16,13 +16,13 @@ loop-i-preserved c =
     ]
 
 pub returns : goal.returns
-returns c = upon_all _ _ _ _ _ _ c.requires.ordered _ _ c.loop-i.i _ c.requires.le_n (omega arith) c.loop-i.invariant
+returns c = upon_all _ _ _ _ _ _ c.requires.ordered _ _ c.loop-i.i _ c.requires.two (omega arith) c.loop-i.invariant
 
 pub bounds-into-p : goal.bounds-into-p
-bounds-into-p c = omega (arith, (placed_at _ _ _ _ _ c.requires.ordered 0 (omega (arith, c.requires.le_n))).0, c.requires.n_bound)
+bounds-into-p c = omega (arith, (placed_at _ _ _ _ _ c.requires.ordered 0 (omega (arith, c.requires.two))).0, c.requires.fits)
 
 pub bounds-into-q : goal.bounds-into-q
-bounds-into-q c = omega (arith, (placed_at _ _ _ _ _ c.requires.ordered c.loop-i.i c.loop-i-test.true).0, c.requires.n_bound)
+bounds-into-q c = omega (arith, (placed_at _ _ _ _ _ c.requires.ordered c.loop-i.i c.loop-i-test.true).0, c.requires.fits)
 
 pub bounds-into-q-else-o-i : goal.bounds-into-q-else-o-i
-bounds-into-q-else-o-i c = omega (arith, (placed_at _ _ _ _ _ c.requires.ordered c.loop-i.i c.loop-i-test.true).0, c.requires.n_bound)
+bounds-into-q-else-o-i c = omega (arith, (placed_at _ _ _ _ _ c.requires.ordered c.loop-i.i c.loop-i-test.true).0, c.requires.fits)

@@ -6,34 +6,34 @@ use Rattle.cuts.proofs.adjacency.fusion.pair_up.Goals.{then-may_pair, else-may_p
 use Rattle.cuts.proofs.Pairing.{pairing_none, pairing_more, pairing_at, pairing_all}
 
 pub loop-l-init : goal.loop-l-init
-loop-l-init c = pairing_none _ _ _ _ _ c.requires.n_bound c.identity-to.ensures.len c.identity-to.ensures.same
+loop-l-init c = pairing_none _ _ _ _ _ c.requires.fits c.identity-to.ensures.len c.identity-to.ensures.same
 
 low_a : (c : goal.Joined-may_pair) → get_or c.args.labels.now c.l-item.result.a 0 < 128
-low_a c = omega (arith, c.requires.by_index _ c.l-item.result.low, c.requires.n_bound)
+low_a c = omega (arith, c.requires.numbered _ c.l-item.result.low, c.requires.fits)
 
 low_b : (c : goal.Joined-may_pair) → get_or c.args.labels.now c.l-item.result.b 0 < 128
-low_b c = omega (arith, c.requires.by_index _ c.l-item.result.high, c.requires.n_bound)
+low_b c = omega (arith, c.requires.numbered _ c.l-item.result.high, c.requires.fits)
 
 pub loop-l-preserved : goal.loop-l-preserved
 loop-l-preserved c =
     elim c.if-may_pair.branch [
       | then-may_pair w ↦ pairing_at _ _ _ _ _ _ _ _ w.to-is w.used-is
           (pairing_more _ _ _ _ _ _ c.args.m.now c.args.degrees.now (get_or c.args.labels.now c.l-item.result.a 0) (get_or c.args.labels.now c.l-item.result.b 0)
-          c.requires.n_bound c.requires.by_index (c.requires.by_index _ c.l-item.result.low) (c.requires.by_index _ c.l-item.result.high)
-          (c.requires.by_index_2 _ (low_a c)) (c.requires.by_index_3 _ (c.requires.by_index _ c.l-item.result.low))
+          c.requires.fits c.requires.numbered (c.requires.numbered _ c.l-item.result.low) (c.requires.numbered _ c.l-item.result.high)
+          (c.requires.counted _ (low_a c)) (c.requires.least _ (c.requires.numbered _ c.l-item.result.low))
           (c.requires.matrix _ _ (low_a c) (low_b c)) (sym c.may_pair.ensures ∙ w.if-may_pair.true) c.loop-l.invariant)
       | else-may_pair w ↦ pairing_at _ _ _ _ _ _ _ _ w.to-is w.used-is c.loop-l.invariant
     ]
 
 pub may_pair-requires : goal.may_pair-requires
 may_pair-requires c = (record {
-  a_bound = omega (arith, c.requires.by_index _ c.l-item.result.low, c.requires.n_bound);
-  b_bound = omega (arith, c.requires.by_index _ c.l-item.result.high, c.requires.n_bound);
-  b_bound_2 = omega (
+  low = omega (arith, c.requires.numbered _ c.l-item.result.low, c.requires.fits);
+  high = omega (arith, c.requires.numbered _ c.l-item.result.high, c.requires.fits);
+  few = omega (
     arith,
-    c.requires.matrix (get_or c.args.labels.now c.l-item.result.a 0) (get_or c.args.labels.now c.l-item.result.b 0) (omega (arith, c.requires.by_index _ c.l-item.result.low, c.requires.n_bound)) (omega (arith, c.requires.by_index _ c.l-item.result.high, c.requires.n_bound)),
+    c.requires.matrix (get_or c.args.labels.now c.l-item.result.a 0) (get_or c.args.labels.now c.l-item.result.b 0) (omega (arith, c.requires.numbered _ c.l-item.result.low, c.requires.fits)) (omega (arith, c.requires.numbered _ c.l-item.result.high, c.requires.fits)),
     count_by-le-length (joins (label c.args.labels.now) (get_or c.args.labels.now c.l-item.result.a 0) (get_or c.args.labels.now c.l-item.result.b 0)) c.args.links.now,
-    c.requires.links_len_bound,
+    c.requires.few,
   );
 })
 

@@ -4,7 +4,7 @@ use Rattle.std.proofs.lemmas.List.Sums.{sum_by_more}
 use Rattle.cuts.proofs.adjacency.weights.add_links.Goals as goal
 
 pub loop-l-init : goal.loop-l-init
-loop-l-init c = (λ y u hy hu. omega (arith, c.requires.by_index_2 y u hy hu), c.requires.by_index_2)
+loop-l-init c = (λ y u hy hu. omega (arith, c.requires.empty y u hy hu), c.requires.empty)
 
 pub loop-l-preserved : goal.loop-l-preserved
 loop-l-preserved c = search (rules, sum_by_more)
