@@ -12,7 +12,7 @@ ghost use Rattle.cutsheets.specs.Listing.{Names, Meets, Facing};
 use cuts::devices::Devices;
 use cuts::finder::Finder;
 use cuts::rig::Rig;
-use marks::parts::{inside_of, move_side, one_part};
+use marks::{inside_of, move_side, one_part};
 
 /// A cut sheet, as the part of each device, and the strength that it shows.
 #[derive(Clone, Copy)]

@@ -1,7 +1,7 @@
 // The marks of all cables: parts of the devices are split, cut after cut, until each is a single device.
 #![tactic(auto)]
 
-ghost use Rattle.std.specs.Prelude.{◌≡◌, ℕ, suc, ◌<◌, ◌≤◌, max, length, nat_eq};
+ghost use Rattle.std.specs.Prelude.{◌≡◌, ℕ, suc, ◌<◌, ◌≤◌, max, length, ◌==◌, nat_eq};
 ghost use Rattle.network.specs.Cables.{LawfulCable, Lawful};
 ghost use Rattle.network.specs.Sets.{crosses};
 ghost use Rattle.network.specs.Marks.{Marks};
@@ -10,13 +10,33 @@ ghost use Rattle.cuts.specs.Rigs.{rig_cables};
 ghost use Rattle.marks.specs.Shedding.{inside, Shear, Marking};
 ghost use Rattle.marks.specs.State.{number, moved, State};
 
-use crate::parts::{inside_of, move_side, one_part};
 use cuts::devices::Devices;
 use cuts::finder::Finder;
 use cuts::rig::Rig;
 use network::cable::Cable;
 
-pub mod parts;
+/// The devices of part p.
+pub fn inside_of(part: &[u8; 128], p: u8) -> Devices
+    ensures { (d : ℕ) → d < 128 → set_of result d ≡ (number part.now d == p) }
+{
+    let mut flags = [false; 128];
+    for d in 0..128usize {
+        flags[d] = part[d] == p;
+    }
+    Devices::from_flags(flags)
+}
+
+/// The devices of part p on the side go to q.
+pub fn move_side(part: &mut [u8; 128], side: &Devices, p: u8, q: u8)
+    ensures { (d : ℕ) → d < 128 → number part.new d ≡ moved p q (set_of side.now d) (number part.old d) }
+{
+    let flags = side.flags();
+    for d in 0..128usize {
+        if part[d] == p && flags[d] {
+            part[d] = q;
+        }
+    }
+}
 
 // Whether the cable joins the two sides of part p.
 fn joins_sides(c: Cable, part: &[u8; 128], side: &Devices, p: u8) -> bool
@@ -65,6 +85,14 @@ fn turn(
     move_side(part, side, p, q);
     floor[p as usize] = m;
     floor[q as usize] = m;
+}
+
+/// All devices in part 0.
+pub fn one_part() -> [u8; 128]
+    ensures long { length result ≡ 128 }
+    ensures zero { (d : ℕ) → number result d ≡ 0 }
+{
+    [0u8; 128]
 }
 
 fn no_floor() -> [u16; 128]

@@ -1,7 +1,7 @@
 use Rattle.std.proofs.Common.{◌≡◌, ℕ, ◌<◌, ◌≤◌, length}
 use Rattle.cuts.specs.Members.{set_of}
 use Rattle.marks.specs.State.{number, moved}
-use Rattle.marks.proofs.parts.move_side.Given as goal
+use Rattle.marks.proofs.move_side.Given as goal
 
 abbrev pub invariant-loop-d : goal.invariant-loop-d
 invariant-loop-d l = (length l.part ≡ 128)
