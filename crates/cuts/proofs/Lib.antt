@@ -1,4 +1,5 @@
 pub mod Below
+pub mod Mapping
 pub mod Membership
 pub mod Pushing
 pub mod Flooring

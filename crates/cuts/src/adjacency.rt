@@ -5,9 +5,10 @@ ghost use Rattle.cuts.specs.Groups.{Numbered, Lesser, Coarser, Weakest};
 
 use crate::devices::Devices;
 use crate::finder::{Cut, Finder};
+use crate::labels::labelled;
 use crate::rig::Rig;
 use fusion::shrink;
-use groups::{Groups, first_reps, number, relabel, side_of};
+use groups::{Groups, first_reps, number, relabel};
 use link::Link;
 use links::links_of;
 use weights::{all_degrees, lightest};
@@ -29,7 +30,7 @@ fn lesser(best: Cut, degrees: &[u16; 128], labels: &[u8; 128], n: u8) -> Cut
     if degrees[x as usize] < best.crossings {
         Cut {
             crossings: degrees[x as usize],
-            side: side_of(labels, x),
+            side: labelled(labels, x),
         }
     } else {
         best

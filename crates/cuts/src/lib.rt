@@ -4,4 +4,5 @@
 pub mod adjacency;
 pub mod devices;
 pub mod finder;
+pub mod labels;
 pub mod rig;

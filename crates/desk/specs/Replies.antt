@@ -13,7 +13,7 @@ use Rattle.network.specs.declared.refusal.Refusal.{Refusal}
 use Rattle.plan.specs.Tally.{laid, lay_answer, lay_after, lift_answer, lift_after}
 use Rattle.plan.specs.States.{cable_of}
 use Rattle.plan.specs.Tables.{closed_cables, marked_at}
-use Rattle.plan.specs.declared.tour.TourCable.{TourCable}
+use Rattle.network.specs.declared.cable.TourCable.{TourCable}
 use Rattle.script.specs.declared.command.Command.{Command}
 use Rattle.script.specs.declared.command.Command.TheVariants as say
 use Rattle.desk.specs.declared.reply.Reply.{Reply}

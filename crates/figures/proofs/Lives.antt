@@ -9,7 +9,7 @@ use Rattle.plan.specs.Tables.{closed_cables}
 use Rattle.plan.specs.Tally.{tour_cables, lay_after, lift_after}
 use Rattle.plan.specs.declared.plan.Open.{Open}
 use Rattle.plan.specs.declared.plan.Closed.{Closed}
-use Rattle.plan.specs.declared.tour.TourCable.{TourCable}
+use Rattle.network.specs.declared.cable.TourCable.{TourCable}
 use Rattle.figures.specs.Over.{sheet_cables, Over}
 
 module _ (cs : List Cable) (t : List TourCable) (p : Open Sheet) (over : Over p cs t) where

@@ -7,7 +7,7 @@ use Rattle.houses.specs.Sheets.{meaning, cables_of}
 use Rattle.houses.specs.declared.sheet.Sheet.{Sheet}
 use Rattle.plan.specs.Tally.{laid}
 use Rattle.plan.specs.declared.plan.Open.{Open}
-use Rattle.plan.specs.declared.tour.TourCable.{TourCable}
+use Rattle.network.specs.declared.cable.TourCable.{TourCable}
 
 abbrev pub sheet_cables : Sheet → List Cable
 sheet_cables s = cables_of (meaning s.bytes.now)

@@ -8,7 +8,7 @@ use Rattle.plan.specs.Tables.{closed_cables}
 use Rattle.plan.specs.Tally.{laid, tour_cables}
 use Rattle.plan.specs.declared.state.Plan.{Plan}
 use Rattle.plan.specs.declared.state.Plan.TheVariants as plan
-use Rattle.plan.specs.declared.tour.TourCable.{TourCable}
+use Rattle.network.specs.declared.cable.TourCable.{TourCable}
 use Rattle.life.specs.Asks as ask
 use Rattle.life.specs.Asks.{Ask, allowed, open_after, tally_after}
 use Rattle.life.specs.Replies as reply

@@ -11,7 +11,7 @@ use Rattle.std.specs.Prelude.{ℕ, Bool, true, false, not, List}
 use Rattle.network.specs.declared.cable.Run.{Run}
 use Rattle.plan.specs.States.{cable_of}
 use Rattle.plan.specs.Tally.{lay_after, lift_after}
-use Rattle.plan.specs.declared.tour.TourCable.{TourCable}
+use Rattle.network.specs.declared.cable.TourCable.{TourCable}
 
 pub data Ask (Y : Type 0) : Type 0 where
   lay : (tag a b : ℕ) → Run → Ask Y

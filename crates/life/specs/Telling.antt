@@ -13,7 +13,7 @@ use Rattle.plan.specs.Questions.{StrengthAnswer, GroupAnswer, RunAnswer}
 use Rattle.plan.specs.States.{cable_of}
 use Rattle.plan.specs.Tally.{tour_cables, lay_answer, lift_answer}
 use Rattle.plan.specs.Tests.{run_check}
-use Rattle.plan.specs.declared.tour.TourCable.{TourCable}
+use Rattle.network.specs.declared.cable.TourCable.{TourCable}
 use Rattle.life.specs.Asks as ask
 use Rattle.life.specs.Asks.{Ask, open_after, tally_after}
 use Rattle.life.specs.Replies as reply

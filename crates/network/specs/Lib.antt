@@ -1,4 +1,5 @@
 pub mod Cables
+pub mod Media
 pub mod Refusals
 pub mod Sets
 pub mod Lists

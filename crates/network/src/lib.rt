@@ -10,6 +10,7 @@ ghost use Rattle.network.specs.Figures.{SetStrength, HasStrength, HasGroup};
 ghost use Rattle.network.specs.Refusals.{number_of, cable_check};
 
 pub mod cable;
+pub mod media;
 pub mod refusal;
 
 use cable::{Cable, Medium, Run};
@@ -20,26 +21,7 @@ impl Refusal {
     pub fn number(self) -> u8
         ensures { result ≡ number_of self }
     {
-        match self {
-            Refusal::DeviceOutOfRange => 1,
-            Refusal::SameEnds => 2,
-            Refusal::RunOutOfRange => 3,
-            Refusal::TagTaken => 4,
-            Refusal::TourFull => 5,
-            Refusal::TagMissing => 6,
-            Refusal::ListEmpty => 7,
-            Refusal::ListTooLong => 8,
-            Refusal::BufferTooShort => 9,
-            Refusal::TooFewDevices => 10,
-            Refusal::UnknownKind => 11,
-            Refusal::BodyCutShort => 12,
-            Refusal::TooManyCables => 13,
-            Refusal::BadChainOrStar => 14,
-            Refusal::RingCount => 15,
-            Refusal::BadCutSheet => 16,
-            Refusal::PartLeadsOut => 17,
-            Refusal::PartHoldsList => 18,
-        }
+        self as u8
     }
 }
 

@@ -17,7 +17,7 @@ use Rattle.cuts.specs.Rigs.{Pushed}
 use Rattle.plan.specs.Rows.{cables_in, Marked, mark_rows}
 use Rattle.plan.specs.Tally.{laid, tour_cables}
 use Rattle.plan.specs.declared.tour.Tour.{Tour}
-use Rattle.plan.specs.declared.tour.TourCable.{TourCable}
+use Rattle.network.specs.declared.cable.TourCable.{TourCable}
 use Rattle.plan.proofs.Tours.{length_laid}
 
 -- a lawful cable is taken where there is room

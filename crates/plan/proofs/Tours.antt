@@ -12,7 +12,7 @@ use Rattle.network.specs.declared.cable.Cable.{Cable}
 use Rattle.network.specs.declared.refusal.Refusal.{Refusal}
 use Rattle.network.specs.declared.refusal.Refusal.TheVariants.{DeviceOutOfRange, SameEnds, RunOutOfRange, TagTaken, TourFull}
 use Rattle.plan.specs.Tally.{laid, tour_cables, later, place, lay_answer, lift_after}
-use Rattle.plan.specs.declared.tour.TourCable.{TourCable}
+use Rattle.network.specs.declared.cable.TourCable.{TourCable}
 use Rattle.plan.specs.declared.tour.Tour.{Tour}
 
 -- a place counted from i on

@@ -9,7 +9,7 @@ use Rattle.plan.specs.Tables.{closed_cables}
 use Rattle.plan.specs.Tally.{laid}
 use Rattle.plan.specs.declared.state.Plan.{Plan}
 use Rattle.plan.specs.declared.state.Plan.TheVariants as plan
-use Rattle.plan.specs.declared.tour.TourCable.{TourCable}
+use Rattle.network.specs.declared.cable.TourCable.{TourCable}
 
 module _ {X : Type 0} where
   abbrev pub home : Plan X → X

@@ -12,7 +12,7 @@ use Rattle.network.specs.Refusals.{refuse}
 use Rattle.network.specs.declared.cable.Cable.{Cable}
 use Rattle.network.specs.declared.refusal.Refusal.{Refusal}
 use Rattle.network.specs.declared.refusal.Refusal.TheVariants.{DeviceOutOfRange, SameEnds, RunOutOfRange, TagTaken, TourFull, TagMissing}
-use Rattle.plan.specs.declared.tour.TourCable.{TourCable}
+use Rattle.network.specs.declared.cable.TourCable.{TourCable}
 use Rattle.plan.specs.declared.tour.Tour.{Tour}
 
 abbrev pub laid : Tour → List TourCable

@@ -1,8 +1,8 @@
 ghost use Rattle.std.specs.Prelude.{◌≡◌, []};
 ghost use Rattle.plan.specs.Tally.{laid, place, lay_answer, lay_after, lift_answer, lift_after};
 
-use crate::tour::{Tour, TourCable};
-use network::cable::{Cable, Medium, Run};
+use crate::tour::Tour;
+use network::cable::{Cable, Medium, Run, TourCable};
 use network::refusal::Refusal;
 
 // What an unused row holds.

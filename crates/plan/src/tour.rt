@@ -1,14 +1,7 @@
 ghost use Rattle.std.specs.Prelude.{◌≡◌, ◌≤◌, map, length, take};
 ghost use Rattle.network.specs.Cables.{Lawful};
 
-use network::cable::Cable;
-
-/// A cable of the tour, with the tag of its drum.
-#[derive(Clone, Copy)]
-pub struct TourCable {
-    pub tag: u16,
-    pub cable: Cable,
-}
+use network::cable::TourCable;
 
 /// The tour's cables in laying order, at most 256, all lawful.
 #[derive(Drop)]

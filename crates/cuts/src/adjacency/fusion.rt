@@ -7,6 +7,7 @@ use crate::adjacency::groups::{number, relabel};
 use crate::adjacency::link::Link;
 use crate::adjacency::order::{Placed, order};
 use crate::adjacency::weights::add_links;
+use crate::labels::own_labels;
 
 /// What each label becomes, and the first label that became each.
 #[derive(Drop)]
@@ -42,18 +43,6 @@ fn fuse(links: &[Link], labels: &[u8; 128], o: &Placed, n: u8, best: u16) -> Fus
     Fusion { into, firsts, len }
 }
 
-/// Each number as itself.
-fn identity() -> [u8; 128]
-    ensures len { length result ≡ 128 }
-    ensures same { (d : ℕ) → d < 128 → slice_index result d ≡ d }
-{
-    let mut labels = [0u8; 128];
-    for d in 0..128u8 {
-        labels[d as usize] = d;
-    }
-    labels
-}
-
 /// Whether neither label is used yet, and half of the first one's links go to the second.
 fn may_pair(m: &[u16; 16384], degrees: &[u16; 128], used: &[bool; 128], a: u8, b: u8) -> bool
     requires low { a < 128 }
@@ -83,7 +72,7 @@ fn pair_up(
     ensures moved { Moved (label labels.now) links.now n best result }
     ensures low { (x : ℕ) → x < 128 → slice_index result x < 128 }
 {
-    let mut to = identity();
+    let mut to = own_labels();
     let mut used = [false; 128];
     for l in links {
         let a = labels[l.a as usize];

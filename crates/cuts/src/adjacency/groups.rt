@@ -1,9 +1,6 @@
 ghost use Rattle.std.specs.Prelude.{◌≡◌, ℕ, ◌<◌, ◌≤◌, ◌==◌, slice_index};
 ghost use Rattle.cuts.specs.Links.{flagged};
-ghost use Rattle.cuts.specs.Members.{set_of};
 ghost use Rattle.cuts.specs.Groups.{Numbered};
-
-use crate::devices::Devices;
 
 /// Groups of devices: a label below `len` for each device, and a device of each label.
 #[derive(Drop)]
@@ -53,15 +50,4 @@ pub fn first_reps(reps: &[u8; 128], firsts: &[u8; 128], n: u8) -> [u8; 128]
         out[y as usize] = reps[firsts[y as usize] as usize];
     }
     out
-}
-
-/// The devices of one label.
-pub fn side_of(labels: &[u8; 128], t: u8) -> Devices
-    ensures { (d : ℕ) → d < 128 → set_of result d ≡ (slice_index labels.now d == t) }
-{
-    let mut flags = [false; 128];
-    for d in 0..128usize {
-        flags[d] = labels[d] == t;
-    }
-    Devices::from_flags(flags)
 }

@@ -4,7 +4,7 @@ use Rattle.network.specs.declared.cable.Medium.TheVariants.{Copper}
 use Rattle.houses.specs.Rings.{link, ring}
 use Rattle.houses.specs.declared.ring.Ring.{Ring}
 use Rattle.plan.specs.Tally.{laid, tour_cables, lay_after, lift_after}
-use Rattle.plan.specs.declared.tour.TourCable.{TourCable}
+use Rattle.network.specs.declared.cable.TourCable.{TourCable}
 use Rattle.examples.proofs.lay_and_lift.Goals as goal
 
 -- a ring's cables and so many of a tour

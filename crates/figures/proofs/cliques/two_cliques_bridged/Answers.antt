@@ -1,7 +1,7 @@
 use Rattle.std.proofs.Common.{List, [], ◌∷◌, ap, subst}
 use Rattle.houses.specs.Sheets.{cables_of}
 use Rattle.plan.specs.Tables.{closed_cables}
-use Rattle.plan.specs.declared.tour.TourCable.{TourCable}
+use Rattle.network.specs.declared.cable.TourCable.{TourCable}
 use Rattle.figures.specs.Grades.{copper}
 use Rattle.figures.specs.Over.{Over}
 use Rattle.figures.specs.Rigs.{two_cliques, bridge}

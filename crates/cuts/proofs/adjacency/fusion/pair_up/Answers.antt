@@ -6,7 +6,7 @@ use Rattle.cuts.proofs.adjacency.fusion.pair_up.Goals.{then-may_pair, else-may_p
 use Rattle.cuts.proofs.Pairing.{pairing_none, pairing_more, pairing_at, pairing_all}
 
 pub loop-l-init : goal.loop-l-init
-loop-l-init c = pairing_none _ _ _ _ _ c.requires.fits c.identity-to.ensures.len c.identity-to.ensures.same
+loop-l-init c = pairing_none _ _ _ _ _ c.requires.fits c.own_labels-to.ensures.size c.own_labels-to.ensures.own
 
 low_a : (c : goal.Joined-may_pair) → get_or c.args.labels.now c.l-item.result.a 0 < 128
 low_a c = omega (arith, c.requires.numbered _ c.l-item.result.low, c.requires.fits)

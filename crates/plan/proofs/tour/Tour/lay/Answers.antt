@@ -1,7 +1,7 @@
 use Rattle.std.proofs.Common.{◌+◌, None, Ok, sym, ap, ◌∙◌, arith}
 use Rattle.std.proofs.lemmas.List.{take_more_set, length-set}
 use Rattle.plan.specs.Tally.{laid, appended}
-use Rattle.plan.specs.declared.tour.TourCable.{TourCable}
+use Rattle.network.specs.declared.cable.TourCable.{TourCable}
 use Rattle.network.proofs.Checks.{checked_lawful}
 use Rattle.plan.proofs.Tours.{lawful_laid, sought, length_laid, lay_free}
 use Rattle.plan.proofs.tour.Tour.lay.Goals as goal

@@ -1,0 +1,24 @@
+// Labels of the 128 devices.
+ghost use Rattle.std.specs.Prelude.{◌≡◌, ℕ, ◌<◌, length, ◌==◌, slice_index};
+ghost use Rattle.cuts.specs.Members.{set_of};
+
+use crate::devices::Devices;
+
+/// Each device has its own number for a label.
+pub fn own_labels() -> [u8; 128]
+    ensures size { length result ≡ 128 }
+    ensures own { (d : ℕ) → d < 128 → slice_index result d ≡ d }
+{
+    let mut labels = [0u8; 128];
+    for d in 0..128u8 {
+        labels[d as usize] = d;
+    }
+    labels
+}
+
+/// The devices with this label.
+pub fn labelled(labels: &[u8; 128], with: u8) -> Devices
+    ensures { (d : ℕ) → d < 128 → set_of result d ≡ (slice_index labels.now d == with) }
+{
+    Devices::from_flags(labels.map(|label| label == with))
+}
