@@ -1,7 +1,6 @@
 pub mod Below
 pub mod Mapping
 pub mod Membership
-pub mod Pushing
 pub mod Flooring
 pub mod Tallies
 pub mod Sides
@@ -16,3 +15,4 @@ pub mod Flipping
 pub mod Numbering
 pub mod Pairing
 pub mod Merging
+pub mod Pushing

@@ -11,8 +11,8 @@
 --   across A ls         how many links do
 --   degree L ls x       how many links lead from the label x to another
 --   Ends L S ls         each end of each link is of S, by its label
---   Keeps cs S ls n     the first n of the links are the cables that belong to S
-use Rattle.std.specs.Prelude.{◌≡◌, ℕ, ◌+◌, ◌*◌, ◌<◌, ◌≤◌, Bool, true, false, cond, ◌&&◌, List, length, take, count_by, ◌==◌, nat_eq, slice_index, slice_index_or}
+--   Keeps cs S ls       the links are the cables that belong to S
+use Rattle.std.specs.Prelude.{◌≡◌, ℕ, ◌+◌, ◌*◌, ◌<◌, ◌≤◌, Bool, true, false, cond, ◌&&◌, List, length, count_by, ◌==◌, nat_eq, slice_index, slice_index_or}
 use Rattle.std.specs.List.{AllByRecursion}
 use Rattle.network.specs.Sets.{differ, crossings}
 use Rattle.network.specs.declared.cable.Cable.{Cable}
@@ -51,8 +51,7 @@ degree L ls x = across (λ d. nat_eq (L d) x) ls
 abbrev pub Ends : (ℕ → ℕ) → (ℕ → Bool) → List Link → Type 0
 Ends L S ls = AllByRecursion (λ l. (S (L l.a) ≡ true) × (S (L l.b) ≡ true)) ls
 
-pub record Keeps (cs : List Cable) (S : ℕ → Bool) (links : List Link) (n : ℕ) : Type 0 where
-  pub fits : n ≤ length cs
-  pub long : length links ≡ 512
-  pub ends : Ends (λ d. d) S (take n links)
-  pub same : (A : ℕ → Bool) → across A (take n links) ≡ crossings cs S A
+pub record Keeps (cs : List Cable) (S : ℕ → Bool) (links : List Link) : Type 0 where
+  pub fits : length links ≤ length cs
+  pub ends : Ends (λ d. d) S links
+  pub same : (A : ℕ → Bool) → across A links ≡ crossings cs S A

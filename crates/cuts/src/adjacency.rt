@@ -1,4 +1,4 @@
-ghost use Rattle.std.specs.Prelude.{◌≡◌, ℕ, ◌<◌, ◌≤◌, ◌&&◌, length, nat_le, nat_lt, slice_index};
+ghost use Rattle.std.specs.Prelude.{◌≡◌, ℕ, ◌<◌, ◌≤◌, ◌&&◌, nat_le, nat_lt, slice_index};
 ghost use Rattle.cuts.specs.Members.{set_of};
 ghost use Rattle.cuts.specs.Links.{label, degree, Ends};
 ghost use Rattle.cuts.specs.Groups.{Numbered, Lesser, Coarser, Weakest};
@@ -9,8 +9,7 @@ use crate::labels::labelled;
 use crate::rig::Rig;
 use fusion::shrink;
 use groups::{Groups, first_reps, number, relabel};
-use link::Link;
-use links::links_of;
+use links::{Links, links_of};
 use weights::{all_degrees, lightest};
 
 mod fusion;
@@ -38,14 +37,13 @@ fn lesser(best: Cut, degrees: &[u16; 128], labels: &[u8; 128], n: u8) -> Cut
 }
 
 /// The groups after one phase: fewer, with no split lost that fewer than `best` links cross.
-fn coarser(links: &[Link], groups: &Groups, degrees: &[u16; 128], best: u16) -> Groups
-    requires few { length links.now ≤ 512 }
+fn coarser(links: &Links, groups: &Groups, degrees: &[u16; 128], best: u16) -> Groups
     requires two { 2 ≤ groups.now.len }
     requires fits { groups.now.len ≤ 128 }
     requires numbered { (d : ℕ) → d < 128 → slice_index groups.now.labels d < groups.now.len }
-    requires counted { (v : ℕ) → v < 128 → slice_index degrees.now v ≡ degree (label groups.now.labels) links.now v }
+    requires counted { (v : ℕ) → v < 128 → slice_index degrees.now v ≡ degree (label groups.now.labels) links.now.list.items v }
     requires least { (k : ℕ) → k < groups.now.len → best ≤ slice_index degrees.now k }
-    ensures { Coarser links.now best groups.now result }
+    ensures { Coarser links.now.list.items best groups.now result }
 {
     let f = shrink(links, &groups.labels, degrees, groups.len, best);
     Groups {
@@ -63,13 +61,12 @@ fn going(n: u8, best: u16, floor: u16) -> bool
 }
 
 /// A split of the set that the fewest links cross, or one that no more than `floor` do. The groups are its devices, two or more.
-fn weakest_split(links: &[Link], set: &Devices, mut groups: Groups, floor: u16) -> Cut
-    requires few { length links.now ≤ 512 }
+fn weakest_split(links: &Links, set: &Devices, mut groups: Groups, floor: u16) -> Cut
     requires low { floor ≤ 512 }
-    requires ends { Ends (λ d. d) (set_of set.now) links.now }
+    requires ends { Ends (λ d. d) (set_of set.now) links.now.list.items }
     requires numbered { Numbered (set_of set.now) groups.labels groups.reps groups.len }
     requires two { 2 ≤ groups.len }
-    ensures { Weakest links.now (set_of set.now) floor result.crossings (set_of result.side) }
+    ensures { Weakest links.now.list.items (set_of set.now) floor result.crossings (set_of result.side) }
 {
     let mut best = Cut {
         crossings: 513,
@@ -96,8 +93,7 @@ impl Finder for MaxAdjacency {
         if groups.len < 2 {
             return None;
         }
-        let kept = links_of(rig.cables(), set);
-        let low = if floor < 512 { floor } else { 512 };
-        Some(weakest_split(&kept.links[0..kept.len], set, groups, low))
+        let links = links_of(rig, set);
+        Some(weakest_split(&links, set, groups, floor.min(512)))
     }
 }

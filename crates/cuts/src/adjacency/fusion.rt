@@ -4,7 +4,7 @@ ghost use Rattle.cuts.specs.Orders.{under, Ordered};
 ghost use Rattle.cuts.specs.Fusions.{Fused, pairs, Moved};
 
 use crate::adjacency::groups::{number, relabel};
-use crate::adjacency::link::Link;
+use crate::adjacency::links::Links;
 use crate::adjacency::order::{Placed, order};
 use crate::adjacency::weights::add_links;
 use crate::labels::own_labels;
@@ -18,11 +18,11 @@ pub struct Fusion {
 }
 
 /// Fuses each label that weighed `best` or more with the one placed before it.
-fn fuse(links: &[Link], labels: &[u8; 128], o: &Placed, n: u8, best: u16) -> Fusion
+fn fuse(links: &Links, labels: &[u8; 128], o: &Placed, n: u8, best: u16) -> Fusion
     requires two { 2 ≤ n }
     requires fits { n ≤ 128 }
-    requires ordered { Ordered (label labels.now) links.now (under n) o.now.places o.now.weights n }
-    ensures { Fused (label labels.now) links.now n best (slice_index o.now.weights (n - 1)) result.into result.firsts result.len }
+    requires ordered { Ordered (label labels.now) links.now.list.items (under n) o.now.places o.now.weights n }
+    ensures { Fused (label labels.now) links.now.list.items n best (slice_index o.now.weights (n - 1)) result.into result.firsts result.len }
 {
     let mut into = [0u8; 128];
     let mut firsts = [0u8; 128];
@@ -56,25 +56,24 @@ fn may_pair(m: &[u16; 16384], degrees: &[u16; 128], used: &[bool; 128], a: u8, b
 
 /// Moves labels to others that half of their links go to.
 fn pair_up(
-    links: &[Link],
+    links: &Links,
     labels: &[u8; 128],
     m: &[u16; 16384],
     degrees: &[u16; 128],
     n: u8,
     best: u16,
 ) -> [u8; 128]
-    requires few { length links.now ≤ 512 }
     requires fits { n ≤ 128 }
     requires numbered { (d : ℕ) → d < 128 → slice_index labels.now d < n }
-    requires counted { (v : ℕ) → v < 128 → slice_index degrees.now v ≡ degree (label labels.now) links.now v }
+    requires counted { (v : ℕ) → v < 128 → slice_index degrees.now v ≡ degree (label labels.now) links.now.list.items v }
     requires least { (k : ℕ) → k < n → best ≤ slice_index degrees.now k }
-    requires matrix { Matrix (label labels.now) links.now m.now }
-    ensures moved { Moved (label labels.now) links.now n best result }
+    requires matrix { Matrix (label labels.now) links.now.list.items m.now }
+    ensures moved { Moved (label labels.now) links.now.list.items n best result }
     ensures low { (x : ℕ) → x < 128 → slice_index result x < 128 }
 {
     let mut to = own_labels();
     let mut used = [false; 128];
-    for l in links {
+    for l in links.list.as_slice() {
         let a = labels[l.a as usize];
         let b = labels[l.b as usize];
         if may_pair(m, degrees, &used, a, b) {
@@ -100,14 +99,13 @@ fn roots(to: &[u8; 128], n: u8) -> [bool; 128]
 
 /// Fewer labels, with no split lost that fewer than `best` links cross. An order fuses most rigs fast; where it leaves
 /// more than half of the labels, as in a ring, pairing may leave fewer.
-pub fn shrink(links: &[Link], labels: &[u8; 128], degrees: &[u16; 128], n: u8, best: u16) -> Fusion
-    requires few { length links.now ≤ 512 }
+pub fn shrink(links: &Links, labels: &[u8; 128], degrees: &[u16; 128], n: u8, best: u16) -> Fusion
     requires two { 2 ≤ n }
     requires fits { n ≤ 128 }
     requires numbered { (d : ℕ) → d < 128 → slice_index labels.now d < n }
-    requires counted { (v : ℕ) → v < 128 → slice_index degrees.now v ≡ degree (label labels.now) links.now v }
+    requires counted { (v : ℕ) → v < 128 → slice_index degrees.now v ≡ degree (label labels.now) links.now.list.items v }
     requires least { (k : ℕ) → k < n → best ≤ slice_index degrees.now k }
-    ensures { Fused (label labels.now) links.now n best best result.into result.firsts result.len }
+    ensures { Fused (label labels.now) links.now.list.items n best best result.into result.firsts result.len }
 {
     let mut m = [0u16; 16384];
     add_links(links, labels, &mut m);

@@ -8,3 +8,10 @@ pub struct Link {
     ghost low: { a < 128 },
     ghost high: { b < 128 },
 }
+
+/// What an unused place of a fixed table holds.
+impl Default for Link {
+    fn default() -> Link {
+        Link { a: 0, b: 0 }
+    }
+}

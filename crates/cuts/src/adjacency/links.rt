@@ -2,16 +2,19 @@ ghost use Rattle.std.specs.Prelude.{◌≡◌, ◌≤◌, length};
 ghost use Rattle.network.specs.Sets.{belongs};
 ghost use Rattle.cuts.specs.Members.{set_of};
 ghost use Rattle.cuts.specs.Links.{Keeps};
+ghost use Rattle.cuts.specs.Rigs.{rig_cables};
 
 use crate::adjacency::link::Link;
 use crate::devices::Devices;
+use crate::rig::Rig;
+use arrayvec::ArrayVec;
 use network::cable::Cable;
 
-/// The first `len` of these links.
+/// The links of a set: no more than a rig has cables.
 #[derive(Drop)]
-pub struct Kept {
-    pub links: [Link; 512],
-    pub len: usize,
+pub struct Links {
+    pub list: ArrayVec<Link, 512>,
+    ghost few: { length list.items ≤ 512 },
 }
 
 /// Whether both ends of a cable are in the set.
@@ -22,17 +25,14 @@ fn both_ends_in(c: &Cable, set: &Devices) -> bool
 }
 
 /// The cables that belong to a set.
-pub fn links_of(cables: &[Cable], set: &Devices) -> Kept
-    requires { length cables.now ≤ 512 }
-    ensures { Keeps cables.now (set_of set.now) result.links result.len }
+pub fn links_of(rig: &Rig, set: &Devices) -> Links
+    ensures { Keeps (rig_cables rig.now) (set_of set.now) result.list.items }
 {
-    let mut links = [Link { a: 0, b: 0 }; 512];
-    let mut len: usize = 0;
-    for c in cables {
+    let mut list = ArrayVec::new();
+    for c in rig.cables() {
         if both_ends_in(c, set) {
-            links[len] = Link { a: c.a, b: c.b };
-            len += 1;
+            list.push(Link { a: c.a, b: c.b });
         }
     }
-    Kept { links, len }
+    Links { list }
 }

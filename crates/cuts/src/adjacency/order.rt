@@ -2,7 +2,7 @@ ghost use Rattle.std.specs.Prelude.{◌≡◌, ℕ, ◌<◌, ◌≤◌, length, 
 ghost use Rattle.cuts.specs.Links.{label, flagged, Matrix};
 ghost use Rattle.cuts.specs.Orders.{Most, Heaviest, under, flags, Ordered};
 
-use crate::adjacency::link::Link;
+use crate::adjacency::links::Links;
 use crate::adjacency::weights::add_row;
 
 /// The greatest of the first n, and 0 if there is none.
@@ -63,11 +63,10 @@ pub struct Placed {
 
 /// A maximum adjacency order of the labels below n: each in its turn has the most links to those placed before it.
 /// A label that is not placed yet has 2048 above its weight, so that one search for the greatest finds it.
-pub fn order(links: &[Link], labels: &[u8; 128], m: &[u16; 16384], n: u8) -> Placed
-    requires few { length links.now ≤ 512 }
-    requires matrix { Matrix (label labels.now) links.now m.now }
+pub fn order(links: &Links, labels: &[u8; 128], m: &[u16; 16384], n: u8) -> Placed
+    requires matrix { Matrix (label labels.now) links.now.list.items m.now }
     requires fits { n ≤ 128 }
-    ensures { Ordered (label labels.now) links.now (under n) result.places result.weights n }
+    ensures { Ordered (label labels.now) links.now.list.items (under n) result.places result.weights n }
 {
     let mut left = flags_below(n);
     let mut w = [2048u16; 128];

@@ -1,7 +1,8 @@
-ghost use Rattle.std.specs.Prelude.{◌≡◌, ℕ, ◌+◌, ◌<◌, ◌≤◌, ◌&&◌, length, ◌==◌, nat_eq, slice_index};
+ghost use Rattle.std.specs.Prelude.{◌≡◌, ℕ, ◌+◌, ◌<◌, ◌≤◌, ◌&&◌, ◌==◌, nat_eq, slice_index};
 ghost use Rattle.cuts.specs.Links.{one, label, joins, cell, Matrix, spans, degree};
 
 use crate::adjacency::link::Link;
+use crate::adjacency::links::Links;
 
 /// Adds one at row x, column v.
 fn bump(m: &mut [u16; 16384], x: u8, v: u8)
@@ -28,13 +29,12 @@ fn add_link(l: &Link, labels: &[u8; 128], m: &mut [u16; 16384])
 }
 
 /// Counts the links between each two labels into a matrix of zeros, 128 rows of 128.
-pub fn add_links(links: &[Link], labels: &[u8; 128], m: &mut [u16; 16384])
-    requires few { length links.now ≤ 512 }
+pub fn add_links(links: &Links, labels: &[u8; 128], m: &mut [u16; 16384])
     requires low { (d : ℕ) → d < 128 → slice_index labels.now d < 128 }
     requires empty { (y u : ℕ) → y < 128 → u < 128 → cell m.old y u ≡ 0 }
-    ensures { Matrix (label labels.now) links.now m.new }
+    ensures { Matrix (label labels.now) links.now.list.items m.new }
 {
-    for l in links {
+    for l in links.list.as_slice() {
         add_link(l, labels, m);
     }
 }
@@ -67,13 +67,12 @@ fn add_degree(l: &Link, labels: &[u8; 128], degrees: &mut [u16; 128])
 }
 
 /// The degree of each label.
-pub fn all_degrees(links: &[Link], labels: &[u8; 128]) -> [u16; 128]
-    requires few { length links.now ≤ 512 }
+pub fn all_degrees(links: &Links, labels: &[u8; 128]) -> [u16; 128]
     requires low { (d : ℕ) → d < 128 → slice_index labels.now d < 128 }
-    ensures { (v : ℕ) → v < 128 → slice_index result v ≡ degree (label labels.now) links.now v }
+    ensures { (v : ℕ) → v < 128 → slice_index result v ≡ degree (label labels.now) links.now.list.items v }
 {
     let mut degrees = [0u16; 128];
-    for l in links {
+    for l in links.list.as_slice() {
         add_degree(l, labels, &mut degrees);
     }
     degrees

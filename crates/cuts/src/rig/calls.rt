@@ -1,10 +1,11 @@
-ghost use Rattle.std.specs.Prelude.{◌≡◌, ◌<◌, [], length, Decides};
+ghost use Rattle.std.specs.Prelude.{◌≡◌, [], length, Decides};
 ghost use Rattle.std.specs.List.{slice_get};
 ghost use Rattle.network.specs.Cables.{LawfulCable};
 ghost use Rattle.cuts.specs.Rigs.{rig_cables, Pushed};
 
-use crate::rig::Rig;
-use network::cable::{Cable, Medium, Run};
+use crate::rig::{Rig, Unfit};
+use arrayvec::ArrayVec;
+use network::cable::Cable;
 use network::out_of_range;
 
 /// Whether the ends of a cable are two different devices, and its run is in range.
@@ -19,59 +20,39 @@ impl Rig {
     pub fn empty() -> Rig
         ensures { rig_cables result ≡ [] }
     {
-        let run = Run {
-            medium: Medium::Copper,
-            length: 0,
-        };
         Rig {
-            cables: [Cable { a: 0, b: 0, run }; 512],
-            count: 0,
+            cables: ArrayVec::new(),
         }
     }
 
-    /// Puts a lawful cable after the others and answers true; answers false, and leaves the rig as it is, for an
-    /// unlawful cable and where there are 512 already.
-    pub fn push(&mut self, cable: Cable) -> bool
+    /// Puts a lawful cable after the others. The rig stays as it is for an unlawful cable, and where there are 512 already.
+    pub fn push(&mut self, cable: Cable) -> Result<(), Unfit>
         ensures { Pushed (rig_cables self.old) cable (rig_cables self.new) result }
     {
-        if self.admits(cable) {
-            self.cables[self.count as usize] = cable;
-            self.count += 1;
-            true
-        } else {
-            false
+        if !is_lawful(cable) {
+            return Err(Unfit::Unlawful);
         }
+        self.cables.try_push(cable).map_err(|_| Unfit::Full)
     }
 
     /// How many cables there are.
     pub fn len(&self) -> u16
         ensures { result ≡ length (rig_cables self.now) }
     {
-        self.count
+        self.cables.len() as u16
     }
 
     /// The cables in their order.
     pub fn cables(&self) -> &[Cable]
         ensures { result.now ≡ rig_cables self.now }
     {
-        &self.cables[0..self.count as usize]
+        self.cables.as_slice()
     }
 
     /// The cable at a place, counted from 0.
     pub fn get(&self, place: u16) -> Option<Cable>
         ensures { result ≡ slice_get (rig_cables self.now) place }
     {
-        if place < self.count {
-            Some(self.cables[place as usize])
-        } else {
-            None
-        }
-    }
-
-    /// Whether there is room, and the cable is lawful.
-    fn admits(&self, cable: Cable) -> bool
-        ensures { Decides result ((self.now.count < 512) × LawfulCable cable) }
-    {
-        self.count < 512 && is_lawful(cable)
+        self.cables().get(place as usize).copied()
     }
 }

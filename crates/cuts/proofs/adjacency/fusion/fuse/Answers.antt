@@ -6,7 +6,7 @@ use Rattle.cuts.proofs.Fusing.{upon_none, upon_new, upon_same, upon_all, upon_at
 use Rattle.cuts.proofs.adjacency.fusion.fuse.Goals.{then-o-i, else-o-i}
 
 pub loop-i-init : goal.loop-i-init
-loop-i-init c = upon_none (label c.args.labels.now) c.args.links.now c.args.best _ _ _ c.requires.ordered c.requires.two
+loop-i-init c = upon_none (label c.args.labels.now) c.args.links.now.list.items c.args.best _ _ _ c.requires.ordered c.requires.two
 
 pub loop-i-preserved : goal.loop-i-preserved
 loop-i-preserved c =

@@ -32,8 +32,8 @@ may_pair-requires c = (record {
   few = omega (
     arith,
     c.requires.matrix (get_or c.args.labels.now c.l-item.result.a 0) (get_or c.args.labels.now c.l-item.result.b 0) (omega (arith, c.requires.numbered _ c.l-item.result.low, c.requires.fits)) (omega (arith, c.requires.numbered _ c.l-item.result.high, c.requires.fits)),
-    count_by-le-length (joins (label c.args.labels.now) (get_or c.args.labels.now c.l-item.result.a 0) (get_or c.args.labels.now c.l-item.result.b 0)) c.args.links.now,
-    c.requires.few,
+    count_by-le-length (joins (label c.args.labels.now) (get_or c.args.labels.now c.l-item.result.a 0) (get_or c.args.labels.now c.l-item.result.b 0)) c.args.links.now.list.items,
+    c.args.links.now.few,
   );
 })
 

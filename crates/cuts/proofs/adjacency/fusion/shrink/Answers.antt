@@ -14,4 +14,4 @@ pub returns-then-f-n : goal.returns-then-f-n
 returns-then-f-n c = fused_less _ _ _ _ _ _ _ _ (last_least _ _ _ _ _ c.order-o.ensures _ _ c.requires.numbered (omega (arith, c.requires.two)) c.requires.counted c.requires.least) c.fuse-f.ensures
 
 pub add_links-requires : goal.add_links-requires
-add_links-requires c = (record { few = c.requires.few; low = (λ d h. omega (arith, c.requires.numbered d h, c.requires.fits)); empty = λ y u hy hu. get_or-replicate {A = ℕ} 16384 (y * 128 + u) 0 0 (omega arith) })
+add_links-requires c = (record { low = (λ d h. omega (arith, c.requires.numbered d h, c.requires.fits)); empty = λ y u hy hu. get_or-replicate {A = ℕ} 16384 (y * 128 + u) 0 0 (omega arith) })
