@@ -1,7 +1,9 @@
--- What an array's `map` gives at each place, by a closure that answers `h` and stays as it is. From std's `IsMapOf`.
-use Rattle.std.proofs.Common.{◌≡◌, ℕ, ◌+◌, ◌<◌, ◌≤◌, ⊎_elim, List, zero, suc, get_or, subst, sym, ap, ◌∙◌, arith}
+-- What an array's `map` asks, and what it gives at each place, by a closure that answers `h` and stays as it is. From std's `IsMapOf`.
+use Rattle.std.proofs.Common.{◌≡◌, ℕ, ◌+◌, ◌<◌, ◌≤◌, ⊎_elim, List, [], ◌∷◌, length, zero, suc, get_or, Some, subst, sym, ap, ◌∙◌, arith}
 use Rattle.std.specs.Fn.{Called, Mut}
-use Rattle.std.specs.Array.{IsMapOf, MapsFrom}
+use Rattle.std.specs.Array.{IsMapOf, MapsFrom, list_steps}
+use Rattle.std.specs.Iterator.{CallableAtEachTurn, Yields}
+use Rattle.std.specs.List.{FoldsTo}
 use Rattle.std.proofs.lemmas.Bool.{cases_lt}
 
 module _ {F A B : Type 0} (g : Mut F (A × Unit {0}) B) (h : A → B) (f : F) (stays : (x : A) (y : B) (q : F) → Called g f (x, tt) y q → (q ≡ f) × (y ≡ h x))
@@ -17,3 +19,17 @@ module _ {F A B : Type 0} (g : Mut F (A × Unit {0}) B) (h : A → B) (f : F) (s
 
   pub mapped : (n : ℕ) → IsMapOf g f xs ys n → (k : ℕ) (d : A) (e : B) → k < n → get_or ys k e ≡ h (get_or xs k d)
   mapped n m k d e low = mapped_from n 0 k d e (omega arith) (omega (arith, low)) m.each
+
+-- what `map` asks: a closure that stays as it is may be called with each element
+module _ {A P : Type 0} (R : P → A → P → Type 0) (Q : P → A → Type 0) (f : P) (d : A) (stays : (x : A) (q : P) → R f x q → q ≡ f) where
+  may_call : (ys s t : List A) (q : P) (x : A) (u : List A)
+      → ((k : ℕ) → k < length s → Q f (get_or s k d)) → Yields list_steps s ys t → FoldsTo R f ys q → list_steps t (Some x) u → Q q x
+  may_call [] s t q x u all y r step =
+      let here = subst (λ (l : List A). (k : ℕ) → k < length l → Q f (get_or l k d)) (y ∙ step) all in
+      subst (λ p. Q p x) r (here 0 (omega arith))
+  may_call (z ∷ ys) s t q x u all y r step =
+      let here = subst (λ (l : List A). (k : ℕ) → k < length l → Q f (get_or l k d)) y.1 all in
+      may_call ys y.0 t q x u (λ k h. here (suc k) (omega arith)) y.2 (subst (λ p. FoldsTo R p ys q) (stays z r.0 r.1) r.2) step
+
+  pub callable : (xs : List A) → ((k : ℕ) → k < length xs → Q f (get_or xs k d)) → CallableAtEachTurn list_steps R Q xs f
+  callable xs all = record { at = λ ys t q x u y r step. may_call ys xs t q x u all y r step }

@@ -1,7 +1,8 @@
 -- What one turn of the order does: a heaviest label is placed, and the weights of the rest grow by their links to it.
-use Rattle.std.proofs.Common.{◌≡◌, ℕ, suc, ◌+◌, ◌<◌, ◌≤◌, Bool, true, false, cond, not, ◌&&◌, ◌⊎◌, List, [], ◌∷◌, reverse, length, get_or, take, set, replicate, sym, refl, ap, ◌∙◌, subst, inl, inr, ⊎_elim, arith}
-use Rattle.std.proofs.lemmas.List.{take_more_set, reverse-append, get_or-set_same, get_or-set_other, get_or-replicate, length-set}
-use Rattle.std.proofs.lemmas.List.Sums.{sum_by-cons, sum_by-set, count_by-le-length}
+use Rattle.std.proofs.Common.{◌≡◌, ℕ, suc, ◌+◌, ◌<◌, ◌≤◌, Bool, true, false, cond, not, ◌&&◌, ◌⊎◌, List, [], ◌∷◌, ◌++◌, ◌-◌, reverse, length, get_or, take, set, replicate, sym, refl, ap, ◌∙◌, subst, inl, inr, ⊎_elim, arith}
+use Rattle.std.proofs.lemmas.List.{take_more_set, reverse-append, get_or-set_same, get_or-set_other, get_or-replicate, get_or_append_left, get_or-append_right, length-append, length-replicate, length-set}
+use Rattle.std.proofs.lemmas.List.Folds.{sum_by-replicate}
+use Rattle.std.proofs.lemmas.List.Sums.{sum_by-append, sum_by-cons, sum_by-set, count_by-le-length}
 use Rattle.std.proofs.lemmas.Bool.{cases_eq, cases_Bool, ne_eqb, eq-eqb, cases_lt, le-ltb, lt-ltb, ltb-true, and_left, and_parts, true≢false}
 use Rattle.std.proofs.lemmas.Bool.Decides.{nat_tests}
 use Rattle.cuts.specs.declared.adjacency.link.Link.{Link}
@@ -171,29 +172,17 @@ module _ (L : ℕ → ℕ) (ls : List Link) (left : List Bool) (w places weights
       all : n ≡ m
       all = omega (arith, p.fits, none_flags left (λ k l. every k (omega (arith, p.long_left))))
 
-pub flags_none : ((k : ℕ) → k < 128 → flagged (replicate 128 false) k ≡ under 0 k)
-flags_none k h = get_or-replicate 128 k false false h ∙ sym (le-ltb k 0 (omega arith))
-
-pub flags_more : (xs : List Bool) (d : ℕ) → length xs ≡ 128 → d < 128 → flags xs ≡ d → ((k : ℕ) → k < 128 → flagged xs k ≡ under d k)
-    → (length (set xs d true) ≡ 128) × (flags (set xs d true) ≡ d + 1) × ((k : ℕ) → k < 128 → flagged (set xs d true) k ≡ under (d + 1) k)
-flags_more xs d long h f e =
-    let l : d < length xs = omega arith in
-    let s = sum_by-set (λ b. one b) xs d true false l in
-    let z : one (get_or xs d false) ≡ 0 = ap (λ b. one b) (e d h ∙ le-ltb d d (omega arith)) in (
-      length-set xs d true ∙ long,
-      omega (arith, s, z),
-      λ k b. ⊎_elim (λ q. subst (λ x. flagged (set xs d true) x ≡ under (d + 1) x) (sym q) (get_or-set_same xs d true false l ∙ sym (lt-ltb d (d + 1) (omega arith))))
-          (λ q. get_or-set_other xs d k true false q ∙ (e k b ∙ step k q (cases_lt k d)))
-          (cases_eq k d),
-    )
-  where
-    step : (k : ℕ) → (k ≡ d → ⊥) → (k < d) ⊎ (d ≤ k) → under d k ≡ under (d + 1) k
-    step k q (inl a) = lt-ltb k d a ∙ sym (lt-ltb k (d + 1) (omega arith))
-    step k q (inr a) = le-ltb k d a ∙ sym (le-ltb k (d + 1) (far (cases_lt d k)))
-      where
-        far : (d < k) ⊎ (k ≤ d) → d + 1 ≤ k
-        far (inl b) = omega arith
-        far (inr b) = absurd (q (omega arith))
+-- of 128 flags the first n are set
+pub flags_front : (n : ℕ) (left : List Bool) → n ≤ 128 → left ≡ replicate n true ++ replicate (128 - n) false
+    → (length left ≡ 128) × (flags left ≡ n) × ((k : ℕ) → k < 128 → flagged left k ≡ under n k)
+flags_front n left h e = (
+  ap (λ (xs : List Bool). length xs) e ∙ omega (arith, length-append (replicate n true) (replicate (128 - n) false), length-replicate n true, length-replicate (128 - n) false),
+  ap flags e ∙ omega (arith, sum_by-append (λ b. one b) (replicate n true) (replicate (128 - n) false), sum_by-replicate (λ b. one b) n true, sum_by-replicate (λ b. one b) (128 - n) false),
+  λ k b. ap (λ xs. flagged xs k) e ∙ ⊎_elim
+      (λ l. get_or_append_left (replicate n true) (replicate (128 - n) false) false k (omega (arith, length-replicate n true, l)) ∙ (get_or-replicate n k true false l ∙ sym (lt-ltb k n l)))
+      (λ l. get_or-append_right (replicate n true) (replicate (128 - n) false) n k false (length-replicate n true) l ∙ (get_or-replicate (128 - n) (k - n) false false (omega arith) ∙ sym (le-ltb k n l)))
+      (cases_lt k n),
+)
 
 pub cleared : (w : List ℕ) (v d b : ℕ) → v < length w → get_or w d 0 ≤ b → get_or (set w v 0) d 0 ≤ b
 cleared w v d b h l = ⊎_elim

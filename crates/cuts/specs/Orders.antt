@@ -1,7 +1,7 @@
 -- Words of the method, not of the subject: maximum adjacency orders. Assumes nothing.
 --   under n d                 d is below n
 --   flags xs                  how many flags are set
---   Most w n r                r is the greatest of the first n, or 0 where there is none
+--   Most w n r                r is the greatest of the first n
 --   Heaviest w n r            r has the greatest of the first n, and it is 2048 or more; or all of them are less
 --   among xs d                d is one of xs
 --   toward L xs v l           the link joins v to one of xs
@@ -10,7 +10,7 @@
 --   Greedy L ls S xs ks       the labels xs, the latest first, were each a heaviest of the rest of S when placed, with the weights ks
 --   latest xs n               the first n of xs, the latest first
 --   Ordered L ls S ps ws n    the first n of ps are all of S, placed so, with the first n of ws as weights
-use Rattle.std.specs.Prelude.{◌≡◌, ℕ, ◌<◌, ◌≤◌, Bool, true, false, cond, not, ◌&&◌, ◌||◌, ◌⊎◌, List, [], ◌∷◌, reverse, length, take, count_by, Option, MatchOption, ◌==◌, nat_lt, slice_index}
+use Rattle.std.specs.Prelude.{◌≡◌, ℕ, ◌<◌, ◌≤◌, Bool, true, false, cond, not, ◌&&◌, ◌||◌, List, [], ◌∷◌, reverse, length, take, count_by, Option, MatchOption, ◌==◌, nat_lt, slice_index}
 use Rattle.cuts.specs.declared.adjacency.link.Link.{Link}
 
 abbrev pub under : ℕ → ℕ → Bool
@@ -21,7 +21,7 @@ flags xs = count_by (λ b. b) xs
 
 pub record Most (w : List ℕ) (n r : ℕ) : Type 0 where
   pub top : (k : ℕ) → k < n → slice_index w k ≤ r
-  pub met : (r ≡ 0) ⊎ ((k : ℕ) × (k < n) × (slice_index w k ≡ r))
+  pub met : (k : ℕ) × (k < n) × (slice_index w k ≡ r)
 
 abbrev pub Heaviest : List ℕ → ℕ → Option ℕ → Type 0
 Heaviest w n r =

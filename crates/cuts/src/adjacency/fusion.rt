@@ -91,8 +91,8 @@ fn roots(to: &[u8; 128], n: u8) -> [bool; 128]
     ensures { (d : ℕ) → d < 128 → flagged result d ≡ (nat_lt d n && slice_index to.now d == d) }
 {
     let mut out = [false; 128];
-    for d in 0..128u8 {
-        out[d as usize] = d < n && to[d as usize] == d;
+    for (d, label) in to.iter().enumerate() {
+        out[d] = d < n as usize && *label as usize == d;
     }
     out
 }

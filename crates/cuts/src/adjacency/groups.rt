@@ -32,11 +32,7 @@ pub fn relabel(labels: &[u8; 128], into: &[u8; 128]) -> [u8; 128]
     requires { (d : ℕ) → d < 128 → slice_index labels.now d < 128 }
     ensures { (d : ℕ) → d < 128 → slice_index result d ≡ slice_index into.now (slice_index labels.now d) }
 {
-    let mut out = [0u8; 128];
-    for d in 0..128usize {
-        out[d] = into[labels[d] as usize];
-    }
-    out
+    labels.map(|label| into[label as usize])
 }
 
 /// A device of each of n labels, from the first label that became it.

@@ -5,17 +5,12 @@ ghost use Rattle.cuts.specs.Orders.{Most, Heaviest, under, flags, Ordered};
 use crate::adjacency::links::Links;
 use crate::adjacency::weights::add_row;
 
-/// The greatest of the first n, and 0 if there is none.
-fn most(w: &[u16; 128], n: u8) -> u16
+/// The greatest of the first n.
+fn most(w: &[u16; 128], n: u8) -> Option<u16>
     requires { n ≤ 128 }
-    ensures { Most w.now n result }
+    ensures { MatchOption result (n ≡ 0) (Most w.now n) }
 {
-    let mut r: u16 = 0;
-    for v in 0..n as usize {
-        let x = w[v];
-        r = if r < x { x } else { r };
-    }
-    r
+    w[..n as usize].iter().copied().max()
 }
 
 /// The first of the first n that is k.
@@ -23,12 +18,7 @@ fn first_of(w: &[u16; 128], n: u8, k: u16) -> Option<u8>
     requires { n ≤ 128 }
     ensures { MatchOption result ((v : ℕ) → v < n → slice_index w.now v ≢ k) (λ m. (m < n) × (slice_index w.now m ≡ k)) }
 {
-    for v in 0..n {
-        if w[v as usize] == k {
-            return Some(v);
-        }
-    }
-    None
+    w[..n as usize].iter().position(|x| *x == k).map(|v| v as u8)
 }
 
 /// A greatest of the first n, if it is 2048 or more.
@@ -36,7 +26,7 @@ fn heaviest(w: &[u16; 128], n: u8) -> Option<u8>
     requires { n ≤ 128 }
     ensures { Heaviest w.now n result }
 {
-    let k = most(w, n);
+    let k = most(w, n)?;
     if k < 2048 { None } else { first_of(w, n, k) }
 }
 
@@ -48,9 +38,7 @@ fn flags_below(n: u8) -> [bool; 128]
     ensures len { length result ≡ 128 }
 {
     let mut left = [false; 128];
-    for d in 0..n {
-        left[d as usize] = true;
-    }
+    left[..n as usize].fill(true);
     left
 }
 

@@ -85,11 +85,5 @@ pub fn lightest(w: &[u16; 128], n: u8) -> u8
     ensures low { result < n }
     ensures least { (k : ℕ) → k < n → slice_index w.now result ≤ slice_index w.now k }
 {
-    let mut m: u8 = 0;
-    for v in 1..n {
-        if w[v as usize] < w[m as usize] {
-            m = v;
-        }
-    }
-    m
+    (0..n).min_by_key(|v| w[*v as usize]).unwrap_or(0)
 }
