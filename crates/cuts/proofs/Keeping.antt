@@ -8,7 +8,7 @@ use Rattle.network.specs.Sets.{belongs, differ, crosses, crossings}
 use Rattle.network.specs.declared.cable.Cable.{Cable}
 use Rattle.cuts.specs.declared.adjacency.link.Link.{Link}
 use Rattle.cuts.specs.Finding.{Finds}
-use Rattle.cuts.specs.Links.{Keeps, spans, across, one}
+use Rattle.cuts.specs.Links.{Keeps, spans, one}
 use Rattle.cuts.specs.Groups.{Weakest}
 
 module _ (cs : List Cable) (S : ℕ → Bool) (links : List Link) (i : ℕ) (z : Cable) (h : i < length cs) (p : Keeps (take i cs) S links) where
@@ -44,10 +44,9 @@ module _ (cs : List Cable) (S : ℕ → Bool) (links : List Link) (i : ℕ) (z :
 pub keeps_all : (cs : List Cable) (S : ℕ → Bool) (x : List Link) (i : ℕ) → length cs ≤ i → Keeps (take i cs) S x → Keeps cs S x
 keeps_all cs S x i h p = subst (λ z. Keeps z S x) (take_all i cs h) p
 
-module _ (cs : List Cable) (S : ℕ → Bool) (links : List Link) (low floor : ℕ) (p : Keeps cs S links) (below : low ≤ floor) where
-  pub finds_from : (k : ℕ) (side : ℕ → Bool) → Weakest links S low k side → Finds cs S floor k side
-  finds_from k side w = record {
-    split = w.split;
-    attained = sym (p.same side) ∙ w.attained;
-    least = λ above A s. omega (arith, p.same A, w.least (omega arith) A s);
-  }
+pub finds_from : (cs : List Cable) (S : ℕ → Bool) (links : List Link) (floor k : ℕ) (side : ℕ → Bool) → Keeps cs S links → Weakest links S floor k side → Finds cs S floor k side
+finds_from cs S links floor k side p w = record {
+  split = w.split;
+  attained = sym (p.same side) ∙ w.attained;
+  least = λ above A s. omega (arith, p.same A, w.least above A s);
+}

@@ -30,25 +30,25 @@ phase_exact : (L : ℕ → ℕ) (ls : List Link) (S : ℕ → Bool) (t : ℕ) (y
 phase_exact L ls S t ys low whole new ends =
     sum_by_same _ _ ls (All-weaker _ _ (λ l i. last_alone (L l.a) (L l.b) t ys new (whole (L l.a) (low l.a l.low) i.0) (whole (L l.b) (low l.b l.high) i.1)) ls ends)
 
-module _ (L : ℕ → ℕ) (ls : List Link) (S : ℕ → Bool) (places weights : List ℕ) (long_p : length places ≡ 128) (long_w : length weights ≡ 128) where
+module _ (L : ℕ → ℕ) (ls : List Link) (S : ℕ → Bool) (places weights : List ℕ) (N : ℕ) (long_p : length places ≡ N) (long_w : length weights ≡ N) where
   abbrev Upto : ℕ → Type 0
   Upto n = Greedy L ls S (latest places n) (latest weights n)
 
   -- the order up to n + 1 with its last written out
-  opened : (n : ℕ) → n < 128 → Upto (n + 1) → Greedy L ls S (get_or places n 0 ∷ latest places n) (get_or weights n 0 ∷ latest weights n)
+  opened : (n : ℕ) → n < N → Upto (n + 1) → Greedy L ls S (get_or places n 0 ∷ latest places n) (get_or weights n 0 ∷ latest weights n)
   opened n h g =
       subst (λ ys. Greedy L ls S ys (get_or weights n 0 ∷ latest weights n)) (latest_read places n (omega arith))
       (subst (λ ks. Greedy L ls S (latest places (n + 1)) ks) (latest_read weights n (omega arith)) g)
 
-  prefix : (k n m : ℕ) → n ≡ m + k → n ≤ 128 → Upto n → Upto m
+  prefix : (k n m : ℕ) → n ≡ m + k → n ≤ N → Upto n → Upto m
   prefix zero n m e h g = subst Upto (omega arith) g
   prefix (suc k) n m e h g = prefix k (n - 1) m (omega arith) (omega arith) (opened (n - 1) (omega arith) (subst Upto (omega arith) g)).4
 
-  turn : (n i : ℕ) → n ≤ 128 → Upto n → i < n → Greedy L ls S (get_or places i 0 ∷ latest places i) (get_or weights i 0 ∷ latest weights i)
+  turn : (n i : ℕ) → n ≤ N → Upto n → i < n → Greedy L ls S (get_or places i 0 ∷ latest places i) (get_or weights i 0 ∷ latest weights i)
   turn n i h g l = opened i (omega arith) (prefix (n - (i + 1)) n (i + 1) (omega arith) h g)
 
   -- no side that spans two neighbours of the order has fewer links across than the later weighed
-  pub pair_least : (n i : ℕ) → n ≤ 128 → Upto n → i + 1 < n → (B : ℕ → Bool) → (B (get_or places i 0) ≡ B (get_or places (i + 1) 0) → ⊥) → get_or weights (i + 1) 0 ≤ across (λ d. B (L d)) ls
+  pub pair_least : (n i : ℕ) → n ≤ N → Upto n → i + 1 < n → (B : ℕ → Bool) → (B (get_or places i 0) ≡ B (get_or places (i + 1) 0) → ⊥) → get_or weights (i + 1) 0 ≤ across (λ d. B (L d)) ls
   pair_least n i h g l B ne =
       least_of L ls S B (get_or places i 0) (get_or places (i + 1) 0) (get_or weights (i + 1) 0) (get_or weights i 0) (latest places i) (latest weights i)
       (subst (λ ys. Greedy L ls S (get_or places (i + 1) 0 ∷ ys) (get_or weights (i + 1) 0 ∷ get_or weights i 0 ∷ latest weights i)) (latest_read places i (omega arith))
@@ -59,14 +59,14 @@ module _ (L : ℕ → ℕ) (ls : List Link) (places weights : List ℕ) (n : ℕ
   -- what stands at a place is below n, and stands at no place before
   pub placed_at : (i : ℕ) → i < n → (get_or places i 0 < n) × (among (latest places i) (get_or places i 0) ≡ false)
   placed_at i h =
-      let g = turn L ls (under n) places weights o.long_places o.long_weights n i o.fits o.greedy h in
+      let g = turn L ls (under n) places weights n o.long_places o.long_weights n i (omega arith) o.greedy h in
       let p = and_parts _ _ g.1 in
       (ltb-true _ _ p.0, not-true _ p.1)
 
   -- the last weighed all its links
   last_weight : ((d : ℕ) → d < 128 → L d < n) → 1 ≤ n → get_or weights (n - 1) 0 ≡ degree L ls (get_or places (n - 1) 0)
   last_weight low some =
-      let g = turn L ls (under n) places weights o.long_places o.long_weights n (n - 1) o.fits o.greedy (omega arith) in
+      let g = turn L ls (under n) places weights n o.long_places o.long_weights n (n - 1) (omega arith) o.greedy (omega arith) in
       let new = placed_at (n - 1) (omega arith) in
       g.2 ∙ phase_exact L ls (under n) (get_or places (n - 1) 0) (latest places (n - 1)) (λ d h. omega (arith, low d h, o.fits))
       (λ d h s. subst (λ ys. among ys d ≡ true) (latest_back places n (n - 1) (omega arith) (omega (arith, o.fits, o.long_places))) (o.whole d h s)) new.1
@@ -77,12 +77,5 @@ module _ (L : ℕ → ℕ) (ls : List Link) (places weights : List ℕ) (n : ℕ
       ends (l ∷ ks) = ((lt-ltb _ _ (low l.a l.low), lt-ltb _ _ (low l.b l.high)), ends ks)
 
   -- so it weighed no less than the best split so far, which no degree is below
-  pub last_least : (degrees : List ℕ) (best : ℕ)
-      → ((d : ℕ) → d < 128 → L d < n)
-      → 1 ≤ n
-      → ((v : ℕ) → v < 128 → get_or degrees v 0 ≡ degree L ls v)
-      → ((k : ℕ) → k < n → best ≤ get_or degrees k 0)
-      → best ≤ get_or weights (n - 1) 0
-  last_least degrees best low some is least =
-      let q = (placed_at (n - 1) (omega arith)).0 in
-      omega (arith, last_weight low some, least (get_or places (n - 1) 0) q, is (get_or places (n - 1) 0) (omega (arith, q, o.fits)))
+  pub last_least : (best : ℕ) → ((d : ℕ) → d < 128 → L d < n) → 1 ≤ n → ((k : ℕ) → k < n → best ≤ degree L ls k) → best ≤ get_or weights (n - 1) 0
+  last_least best low some least = omega (arith, last_weight low some, least (get_or places (n - 1) 0) (placed_at (n - 1) (omega arith)).0)

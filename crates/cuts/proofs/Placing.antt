@@ -1,28 +1,31 @@
 -- What one turn of the order does: a heaviest label is placed, and the weights of the rest grow by their links to it.
-use Rattle.std.proofs.Common.{◌≡◌, ℕ, suc, ◌+◌, ◌<◌, ◌≤◌, Bool, true, false, cond, not, ◌&&◌, ◌⊎◌, List, [], ◌∷◌, ◌++◌, ◌-◌, reverse, length, get_or, take, set, replicate, sym, refl, ap, ◌∙◌, subst, inl, inr, ⊎_elim, arith}
-use Rattle.std.proofs.lemmas.List.{take_more_set, reverse-append, get_or-set_same, get_or-set_other, get_or-replicate, get_or_append_left, get_or-append_right, length-append, length-replicate, length-set}
+use Rattle.std.proofs.Common.{◌≡◌, ℕ, suc, ◌+◌, ◌<◌, ◌≤◌, Bool, true, false, cond, not, ◌&&◌, List, [], ◌∷◌, ◌++◌, ◌-◌, reverse, length, map, get_or, set, replicate, sym, refl, ap, ◌∙◌, subst, ⊎_elim, arith}
+use Rattle.std.proofs.lemmas.List.{take_all, length-map, map-append, reverse-append, get_or-set_same, get_or-set_other, get_or-replicate, get_or_append_left, get_or-append_right, length-append, length-replicate, length-set}
 use Rattle.std.proofs.lemmas.List.Folds.{sum_by-replicate}
 use Rattle.std.proofs.lemmas.List.Sums.{sum_by-append, sum_by-cons, sum_by-set, count_by-le-length}
 use Rattle.std.proofs.lemmas.Bool.{cases_eq, cases_Bool, ne_eqb, eq-eqb, cases_lt, le-ltb, lt-ltb, ltb-true, and_left, and_parts, true≢false}
 use Rattle.std.proofs.lemmas.Bool.Decides.{nat_tests}
 use Rattle.cuts.specs.declared.adjacency.link.Link.{Link}
 use Rattle.cuts.specs.Links.{flagged, joins, between, one}
-use Rattle.cuts.specs.Orders.{Greedy, latest, rest, towards, toward, among, flags, under, Ordered}
+use Rattle.cuts.specs.declared.adjacency.order.Place.{Place}
+use Rattle.cuts.specs.Orders.{Greedy, labels_of, weights_of, latest, rest, towards, toward, among, flags, under, Ordered}
 use Rattle.cuts.proofs.Tallies.{sum_by_plus, sum_by_zero}
 
+-- the labels placed, the latest first
+abbrev pub placed : List Place → List ℕ
+placed ps = latest (labels_of ps) (length ps)
+
 -- what the loop of `order` keeps: w has 2048 more than the weight for those left, and no more than it for the others below m
-pub record Placing (L : ℕ → ℕ) (ls : List Link) (left : List Bool) (w places weights : List ℕ) (n m : ℕ) : Type 0 where
-  pub greedy : Greedy L ls (under m) (latest places n) (latest weights n)
-  pub rests : (d : ℕ) → d < 128 → flagged left d ≡ rest (under m) (latest places n) d
-  pub bound : (d : ℕ) → d < 128 → get_or w d 0 ≤ 2048 + towards L ls (latest places n) d
-  pub open_w : (d : ℕ) → d < 128 → flagged left d ≡ true → get_or w d 0 ≡ 2048 + towards L ls (latest places n) d
-  pub shut_w : (d : ℕ) → d < m → flagged left d ≡ false → get_or w d 0 ≤ towards L ls (latest places n) d
-  pub fits : flags left + n ≡ m
+pub record Placing (L : ℕ → ℕ) (ls : List Link) (left : List Bool) (w : List ℕ) (ps : List Place) (m : ℕ) : Type 0 where
+  pub greedy : Greedy L ls (under m) (placed ps) (latest (weights_of ps) (length ps))
+  pub rests : (d : ℕ) → d < 128 → flagged left d ≡ rest (under m) (placed ps) d
+  pub bound : (d : ℕ) → d < 128 → get_or w d 0 ≤ 2048 + towards L ls (placed ps) d
+  pub open_w : (d : ℕ) → d < 128 → flagged left d ≡ true → get_or w d 0 ≡ 2048 + towards L ls (placed ps) d
+  pub shut_w : (d : ℕ) → d < m → flagged left d ≡ false → get_or w d 0 ≤ towards L ls (placed ps) d
+  pub fits : flags left + length ps ≡ m
   pub most : m ≤ 128
   pub long_left : length left ≡ 128
   pub long_w : length w ≡ 128
-  pub long_places : length places ≡ 128
-  pub long_weights : length weights ≡ 128
 
 toward_more : (L : ℕ → ℕ) (xs : List ℕ) (x v : ℕ) (l : Link) → among xs x ≡ false → one (toward L (x ∷ xs) v l) ≡ one (toward L xs v l) + one (joins L x v l)
 toward_more L xs x v l new = grind (arith, nat_tests)
@@ -30,8 +33,12 @@ toward_more L xs x v l new = grind (arith, nat_tests)
 pub towards_more : (L : ℕ → ℕ) (ls : List Link) (xs : List ℕ) (x v : ℕ) → among xs x ≡ false → towards L ls (x ∷ xs) v ≡ towards L ls xs v + between L x v ls
 towards_more L ls xs x v new = sum_by_plus _ _ _ (λ l. toward_more L xs x v l new) ls
 
-latest_more : (xs : List ℕ) (n v : ℕ) → n < length xs → latest (set xs n v) (n + 1) ≡ v ∷ latest xs n
-latest_more xs n v h = ap reverse (take_more_set xs n v h) ∙ reverse-append (take n xs) (v ∷ [])
+latest_all : (f : Place → ℕ) (ps : List Place) → latest (map f ps) (length ps) ≡ reverse (map f ps)
+latest_all f ps = ap reverse (take_all (length ps) (map f ps) (omega (arith, length-map ps f)))
+
+latest_more : (f : Place → ℕ) (ps : List Place) (p : Place) → latest (map f (ps ++ p ∷ [])) (length (ps ++ p ∷ [])) ≡ f p ∷ latest (map f ps) (length ps)
+latest_more f ps p =
+    latest_all f (ps ++ p ∷ []) ∙ ap reverse (map-append f ps (p ∷ [])) ∙ reverse-append (map f ps) (f p ∷ []) ∙ ap (λ xs. f p ∷ xs) (sym (latest_all f ps))
 
 toward_none : (L : ℕ → ℕ) (v : ℕ) (l : Link) → one (toward L [] v l) ≡ 0
 toward_none L v l = grind (arith, nat_tests)
@@ -44,7 +51,7 @@ not_none true = refl
 not_none false = refl
 
 pub placing_none : (L : ℕ → ℕ) (ls : List Link) (left : List Bool) (m : ℕ) → length left ≡ 128 → ((d : ℕ) → d < 128 → flagged left d ≡ under m d) → flags left ≡ m → m ≤ 128
-    → Placing L ls left (replicate 128 2048) (replicate 128 0) (replicate 128 0) 0 m
+    → Placing L ls left (replicate 128 2048) [] m
 placing_none L ls left m long e f most = record {
   greedy = tt;
   rests = λ d h. e d h ∙ not_none (under m d);
@@ -55,8 +62,6 @@ placing_none L ls left m long e f most = record {
   most = most;
   long_left = long;
   long_w = refl;
-  long_places = refl;
-  long_weights = refl;
 }
 
 rest_new : (s a : Bool) → (s && not a) ≡ true → a ≡ false
@@ -87,14 +92,14 @@ and_no true false h e = h
 and_no false true h e = refl
 and_no false false h e = e
 
-module _ (L : ℕ → ℕ) (ls : List Link) (left : List Bool) (w places weights : List ℕ) (n m : ℕ) (short : length ls ≤ 512) (p : Placing L ls left w places weights n m) where
+module _ (L : ℕ → ℕ) (ls : List Link) (left : List Bool) (w : List ℕ) (ps : List Place) (m : ℕ) (short : length ls ≤ 512) (p : Placing L ls left w ps m) where
   -- what is 2048 or more is left
   is_left : (v : ℕ) → v < m → 2048 ≤ get_or w v 0 → flagged left v ≡ true
   is_left v low big =
-      ⊎_elim (λ t. t) (λ f. absurd (omega (arith, p.shut_w v low f, count_by-le-length (toward L (latest places n) v) ls, short, big))) (cases_Bool (flagged left v))
+      ⊎_elim (λ t. t) (λ f. absurd (omega (arith, p.shut_w v low f, count_by-le-length (toward L (placed ps) v) ls, short, big))) (cases_Bool (flagged left v))
 
   -- a place is free for it, and one fewer is left
-  pub room : (v : ℕ) → v < m → 2048 ≤ get_or w v 0 → (n < 128) × (flags (set left v false) + 1 ≡ flags left)
+  pub room : (v : ℕ) → v < m → 2048 ≤ get_or w v 0 → (length ps < 128) × (flags (set left v false) + 1 ≡ flags left)
   room v low big =
       let l = is_left v low big in
       let h : v < length left = omega (arith, p.long_left, p.most) in
@@ -103,21 +108,22 @@ module _ (L : ℕ → ℕ) (ls : List Link) (left : List Bool) (w places weights
       (omega (arith, f, p.fits, p.most), f)
 
   -- one turn
-  pub placing_more : (v k : ℕ) (w' : List ℕ)
+  pub placing_more : (v : ℕ) (q : Place) (w' : List ℕ)
+      → q.label ≡ v
       → v < m
       → 2048 ≤ get_or w v 0
       → ((d : ℕ) → d < m → get_or w d 0 ≤ get_or w v 0)
-      → k + 2048 ≡ get_or w v 0
+      → q.weight + 2048 ≡ get_or w v 0
       → ((d : ℕ) → d < 128 → get_or w' d 0 ≡ get_or (set w v 0) d 0 + between L v d ls)
       → length w' ≡ 128
-      → Placing L ls (set left v false) w' (set places n v) (set weights n k) (n + 1) m
-  placing_more v k w' low-m big most is added long =
-      let xs = latest places n in
+      → Placing L ls (set left v false) w' (ps ++ q ∷ []) m
+  placing_more v q w' at low-m big most is added long =
+      let xs = placed ps in
       let low : v < 128 = omega (arith, p.most) in
       let left_v = is_left v low-m big in
       let r = room v low-m big in
-      let e : latest (set places n v) (n + 1) ≡ v ∷ xs = latest_more places n v (omega arith) in
-      let f : latest (set weights n k) (n + 1) ≡ k ∷ latest weights n = latest_more weights n k (omega arith) in
+      let e : placed (ps ++ q ∷ []) ≡ v ∷ xs = latest_more (λ p. p.label) ps q ∙ ap (λ x. x ∷ xs) at in
+      let f : latest (weights_of (ps ++ q ∷ [])) (length (ps ++ q ∷ [])) ≡ q.weight ∷ latest (weights_of ps) (length ps) = latest_more (λ p. p.weight) ps q in
       let is_rest : rest (under m) xs v ≡ true = sym (p.rests v low) ∙ left_v in
       let new : among xs v ≡ false = rest_new (under m v) (among xs v) is_rest in
       let z : get_or (set w v 0) v 0 ≡ 0 = get_or-set_same w v 0 0 (omega (arith, p.long_w)) in
@@ -142,26 +148,24 @@ module _ (L : ℕ → ℕ) (ls : List Link) (left : List Bool) (w places weights
             (λ q. omega (arith, ap (λ x. get_or (set w v 0) x 0) q, z, added d (omega (arith, p.most)), towards_more L ls xs v d new))
             (λ ne. omega (arith, get_or-set_other w v d 0 0 ne, added d (omega (arith, p.most)), p.shut_w d h (sym (get_or-set_other left v d false false ne) ∙ o), towards_more L ls xs v d new))
             (cases_eq d v));
-        fits = omega arith;
+        fits = omega (arith, r.1, p.fits, length-append ps (q ∷ []));
         most = p.most;
         long_left = length-set left v false ∙ p.long_left;
         long_w = long;
-        long_places = length-set places n v ∙ p.long_places;
-        long_weights = length-set weights n k ∙ p.long_weights;
       }
     where
       gone : flagged (set left v false) v ≡ false
       gone = get_or-set_same left v false false (omega (arith, p.long_left, p.most))
 
   pub placing_all : ((k : ℕ) → k < m → get_or w k 0 < 2048)
-      → Ordered L ls (under m) places weights m
+      → Ordered L ls (under m) (labels_of ps) (weights_of ps) m
   placing_all none =
-      subst (λ z. Ordered L ls (under m) places weights z) all (record {
+      subst (λ z. Ordered L ls (under m) (labels_of ps) (weights_of ps) z) all (record {
         greedy = p.greedy;
-        whole = λ d h s. and_no (under m d) (among (latest places n) d) (sym (every d h) ∙ p.rests d h) s;
+        whole = λ d h s. and_no (under m d) (among (placed ps) d) (sym (every d h) ∙ p.rests d h) s;
         fits = omega (arith, p.fits, p.most);
-        long_places = p.long_places;
-        long_weights = p.long_weights;
+        long_places = length-map ps (λ p. p.label);
+        long_weights = length-map ps (λ p. p.weight);
       })
     where
       every : (d : ℕ) → d < 128 → flagged left d ≡ false
@@ -169,7 +173,7 @@ module _ (L : ℕ → ℕ) (ls : List Link) (left : List Bool) (w places weights
           (λ l. ⊎_elim (λ t. absurd (omega (arith, none d l, p.open_w d h t))) (λ f. f) (cases_Bool (flagged left d)))
           (λ g. p.rests d h ∙ and_left (under m d) _ (le-ltb d m g)) (cases_lt d m)
 
-      all : n ≡ m
+      all : length ps ≡ m
       all = omega (arith, p.fits, none_flags left (λ k l. every k (omega (arith, p.long_left))))
 
 -- of 128 flags the first n are set

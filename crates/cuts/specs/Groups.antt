@@ -1,12 +1,12 @@
 -- Words of the method, not of the subject: groups of devices, and the best split so far. Assumes nothing.
 --   Numbered S labels reps n      each device of S has a label below n of its own, and `reps` has the device of each label
---   Lesser degrees labels n b r   r is the better of the split b and the split of a label below n that has the least degree
+--   Lightest L ls n r             r is the split of a label below n that has the least degree
 --   Coarser ls best g h           the groups h come from g by a fusion that loses no split with fewer than `best` links across
 --   Weakest ls S floor k side     `side` splits S, exactly k links go across, and where k is above the floor no split of S has fewer
-use Rattle.std.specs.Prelude.{◌≡◌, ℕ, ◌<◌, ◌≤◌, Bool, true, false, ◌⊎◌, List, ◌==◌, slice_index}
+use Rattle.std.specs.Prelude.{◌≡◌, ℕ, ◌<◌, ◌≤◌, Bool, true, false, List, length, ◌==◌}
 use Rattle.network.specs.Sets.{Split}
 use Rattle.cuts.specs.Members.{set_of}
-use Rattle.cuts.specs.Links.{label, across}
+use Rattle.cuts.specs.Links.{label, across, degree}
 use Rattle.cuts.specs.Fusions.{Fused}
 use Rattle.cuts.specs.declared.adjacency.link.Link.{Link}
 use Rattle.cuts.specs.declared.adjacency.groups.Groups.{Groups}
@@ -21,19 +21,19 @@ pub record Numbered (S : ℕ → Bool) (labels reps : List ℕ) (n : ℕ) : Type
   pub reps_in : (x : ℕ) → x < n → S (label reps x) ≡ true
   pub reps_own : (x : ℕ) → x < n → label labels (label reps x) ≡ x
 
-pub record Lesser (degrees labels : List ℕ) (n : ℕ) (b r : Cut) : Type 0 where
+pub record Lightest (L : ℕ → ℕ) (ls : List Link) (n : ℕ) (r : Cut) : Type 0 where
   pub low : ℕ
   pub low_in : low < n
-  pub least : (k : ℕ) → k < n → r.crossings ≤ slice_index degrees k
-  pub not_more : r.crossings ≤ b.crossings
-  pub is : (r ≡ b) ⊎ ((r.crossings ≡ slice_index degrees low) × ((d : ℕ) → d < 128 → set_of r.side d ≡ (slice_index labels d == low)))
+  pub least : (k : ℕ) → k < n → r.crossings ≤ degree L ls k
+  pub is : r.crossings ≡ degree L ls low
+  pub side : (d : ℕ) → d < 128 → set_of r.side d ≡ (L d == low)
 
 pub record Coarser (ls : List Link) (best : ℕ) (g h : Groups) : Type 0 where
   pub into : List ℕ
   pub firsts : List ℕ
-  pub fused : Fused (label g.labels) ls g.len best best into firsts h.len
+  pub fused : Fused (label g.labels) ls (length g.reps.items) best best into firsts (length h.reps.items)
   pub labels_are : (d : ℕ) → d < 128 → label h.labels d ≡ label into (label g.labels d)
-  pub reps_are : (y : ℕ) → y < h.len → label h.reps y ≡ label g.reps (label firsts y)
+  pub reps_are : (y : ℕ) → y < length h.reps.items → label h.reps.items y ≡ label g.reps.items (label firsts y)
 
 pub record Weakest (ls : List Link) (S : ℕ → Bool) (floor k : ℕ) (side : ℕ → Bool) : Type 0 where
   pub split : Split S side

@@ -9,9 +9,12 @@
 --   rest S xs d               d is of S and not one of xs
 --   Greedy L ls S xs ks       the labels xs, the latest first, were each a heaviest of the rest of S when placed, with the weights ks
 --   latest xs n               the first n of xs, the latest first
---   Ordered L ls S ps ws n    the first n of ps are all of S, placed so, with the first n of ws as weights
-use Rattle.std.specs.Prelude.{◌≡◌, ℕ, ◌<◌, ◌≤◌, Bool, true, false, cond, not, ◌&&◌, ◌||◌, List, [], ◌∷◌, reverse, length, take, count_by, Option, MatchOption, ◌==◌, nat_lt, slice_index}
+--   labels_of ps              the labels that were placed
+--   weights_of ps             what each weighed then
+--   Ordered L ls S xs ks n    the labels xs, n of them, are all of S, placed so, with the weights ks
+use Rattle.std.specs.Prelude.{◌≡◌, ℕ, ◌<◌, ◌≤◌, Bool, true, false, cond, not, ◌&&◌, ◌||◌, List, [], ◌∷◌, reverse, length, map, take, count_by, Option, MatchOption, ◌==◌, nat_lt, slice_index}
 use Rattle.cuts.specs.declared.adjacency.link.Link.{Link}
+use Rattle.cuts.specs.declared.adjacency.order.Place.{Place}
 
 abbrev pub under : ℕ → ℕ → Bool
 under n d = nat_lt d n
@@ -52,6 +55,12 @@ Greedy L ls S (v ∷ xs) (k ∷ ks) =
     × ((d : ℕ) → d < 128 → rest S xs d ≡ true → towards L ls xs d ≤ k)
     × Greedy L ls S xs ks
 
+abbrev pub labels_of : List Place → List ℕ
+labels_of ps = map (λ p. p.label) ps
+
+abbrev pub weights_of : List Place → List ℕ
+weights_of ps = map (λ p. p.weight) ps
+
 abbrev pub latest : List ℕ → ℕ → List ℕ
 latest xs n = reverse (take n xs)
 
@@ -59,5 +68,5 @@ pub record Ordered (L : ℕ → ℕ) (ls : List Link) (S : ℕ → Bool) (places
   pub greedy : Greedy L ls S (latest places n) (latest weights n)
   pub whole : (d : ℕ) → d < 128 → S d ≡ true → among (latest places n) d ≡ true
   pub fits : n ≤ 128
-  pub long_places : length places ≡ 128
-  pub long_weights : length weights ≡ 128
+  pub long_places : length places ≡ n
+  pub long_weights : length weights ≡ n

@@ -1,46 +1,36 @@
 ghost use Rattle.std.specs.Prelude.{◌≡◌, ℕ, ◌-◌, ◌<◌, ◌≤◌, ◌&&◌, length, ◌==◌, nat_lt, slice_index};
 ghost use Rattle.cuts.specs.Links.{label, cell, degree, flagged, Matrix};
-ghost use Rattle.cuts.specs.Orders.{under, Ordered};
+ghost use Rattle.cuts.specs.Orders.{under, labels_of, weights_of, Ordered};
 ghost use Rattle.cuts.specs.Fusions.{Fused, pairs, Moved};
 
-use crate::adjacency::groups::{number, relabel};
-use crate::adjacency::links::Links;
-use crate::adjacency::order::{Placed, order};
-use crate::adjacency::weights::add_links;
+use crate::adjacency::grouping::{number, relabel};
+use crate::adjacency::order::{Place, order};
+use crate::adjacency::phase::Phase;
+use crate::adjacency::weights::{add_links, all_degrees};
 use crate::labels::own_labels;
+use arrayvec::ArrayVec;
 
 /// What each label becomes, and the first label that became each.
 #[derive(Drop)]
 pub struct Fusion {
     pub into: [u8; 128],
-    pub firsts: [u8; 128],
-    pub len: u8,
+    pub firsts: ArrayVec<u8, 128>,
 }
 
-/// Fuses each label that weighed `best` or more with the one placed before it.
-fn fuse(links: &Links, labels: &[u8; 128], o: &Placed, n: u8, best: u16) -> Fusion
-    requires two { 2 ≤ n }
-    requires fits { n ≤ 128 }
-    requires ordered { Ordered (label labels.now) links.now.list.items (under n) o.now.places o.now.weights n }
-    ensures { Fused (label labels.now) links.now.list.items n best (slice_index o.now.weights (n - 1)) result.into result.firsts result.len }
+/// Fuses each label that weighed as much as the best split or more with the one placed before it.
+fn fuse(phase: &Phase, order: &ArrayVec<Place, 128>) -> Fusion
+    requires { Ordered (label phase.now.groups.now.labels) phase.now.links.now.list.items (under (length phase.now.groups.now.reps.items)) (labels_of order.now.items) (weights_of order.now.items) (length phase.now.groups.now.reps.items) }
+    ensures { Fused (label phase.now.groups.now.labels) phase.now.links.now.list.items (length phase.now.groups.now.reps.items) phase.now.best (slice_index (weights_of order.now.items) (length phase.now.groups.now.reps.items - 1)) result.into result.firsts.items (length result.firsts.items) }
 {
     let mut into = [0u8; 128];
-    let mut firsts = [0u8; 128];
-    let p = o.places[0];
-    into[p as usize] = 0;
-    firsts[0] = p;
-    let mut len: u8 = 1;
-    for i in 1..n {
-        let q = o.places[i as usize];
-        if o.weights[i as usize] < best {
-            into[q as usize] = len;
-            firsts[len as usize] = q;
-            len += 1;
-        } else {
-            into[q as usize] = len - 1;
+    let mut firsts = ArrayVec::new();
+    for place in order.as_slice() {
+        if firsts.is_empty() || place.weight < phase.best {
+            firsts.push(place.label);
         }
+        into[place.label as usize] = firsts.len() as u8 - 1;
     }
-    Fusion { into, firsts, len }
+    Fusion { into, firsts }
 }
 
 /// Whether neither label is used yet, and half of the first one's links go to the second.
@@ -55,28 +45,19 @@ fn may_pair(m: &[u16; 16384], degrees: &[u16; 128], used: &[bool; 128], a: u8, b
 }
 
 /// Moves labels to others that half of their links go to.
-fn pair_up(
-    links: &Links,
-    labels: &[u8; 128],
-    m: &[u16; 16384],
-    degrees: &[u16; 128],
-    n: u8,
-    best: u16,
-) -> [u8; 128]
-    requires fits { n ≤ 128 }
-    requires numbered { (d : ℕ) → d < 128 → slice_index labels.now d < n }
-    requires counted { (v : ℕ) → v < 128 → slice_index degrees.now v ≡ degree (label labels.now) links.now.list.items v }
-    requires least { (k : ℕ) → k < n → best ≤ slice_index degrees.now k }
-    requires matrix { Matrix (label labels.now) links.now.list.items m.now }
-    ensures moved { Moved (label labels.now) links.now.list.items n best result }
+fn pair_up(phase: &Phase, m: &[u16; 16384]) -> [u8; 128]
+    requires { Matrix (label phase.now.groups.now.labels) phase.now.links.now.list.items m.now }
+    ensures moved { Moved (label phase.now.groups.now.labels) phase.now.links.now.list.items (length phase.now.groups.now.reps.items) phase.now.best result }
     ensures low { (x : ℕ) → x < 128 → slice_index result x < 128 }
 {
+    let labels = &phase.groups.labels;
+    let degrees = all_degrees(phase.links, phase.groups);
     let mut to = own_labels();
     let mut used = [false; 128];
-    for l in links.list.as_slice() {
+    for l in phase.links.list.as_slice() {
         let a = labels[l.a as usize];
         let b = labels[l.b as usize];
-        if may_pair(m, degrees, &used, a, b) {
+        if may_pair(m, &degrees, &used, a, b) {
             to[a as usize] = b;
             used[a as usize] = true;
             used[b as usize] = true;
@@ -97,35 +78,25 @@ fn roots(to: &[u8; 128], n: u8) -> [bool; 128]
     out
 }
 
-/// Fewer labels, with no split lost that fewer than `best` links cross. An order fuses most rigs fast; where it leaves
+/// Fewer labels, with no split lost that fewer links than the best cross. An order fuses most rigs fast; where it leaves
 /// more than half of the labels, as in a ring, pairing may leave fewer.
-pub fn shrink(links: &Links, labels: &[u8; 128], degrees: &[u16; 128], n: u8, best: u16) -> Fusion
-    requires two { 2 ≤ n }
-    requires fits { n ≤ 128 }
-    requires numbered { (d : ℕ) → d < 128 → slice_index labels.now d < n }
-    requires counted { (v : ℕ) → v < 128 → slice_index degrees.now v ≡ degree (label labels.now) links.now.list.items v }
-    requires least { (k : ℕ) → k < n → best ≤ slice_index degrees.now k }
-    ensures { Fused (label labels.now) links.now.list.items n best best result.into result.firsts result.len }
+pub fn shrink(phase: &Phase) -> Fusion
+    ensures { Fused (label phase.now.groups.now.labels) phase.now.links.now.list.items (length phase.now.groups.now.reps.items) phase.now.best phase.now.best result.into result.firsts.items (length result.firsts.items) }
 {
+    let n = phase.groups.len();
     let mut m = [0u16; 16384];
-    add_links(links, labels, &mut m);
-    let o = order(links, labels, &m, n);
-    let f = fuse(links, labels, &o, n, best);
-    if f.len <= n / 2 {
-        f
-    } else {
-        let to = pair_up(links, labels, &m, degrees, n, best);
-        let at = roots(&to, n);
-        let g = number(&at);
-        if g.len < f.len {
-            let into = relabel(&to, &g.labels);
-            Fusion {
-                into,
-                firsts: g.reps,
-                len: g.len,
-            }
-        } else {
-            f
-        }
+    add_links(phase.links, phase.groups, &mut m);
+    let fused = fuse(phase, &order(phase, &m));
+    if fused.firsts.len() <= n as usize / 2 {
+        return fused;
+    }
+    let to = pair_up(phase, &m);
+    let paired = number(&roots(&to, n));
+    if paired.reps.len() >= fused.firsts.len() {
+        return fused;
+    }
+    Fusion {
+        into: relabel(&to, &paired.labels),
+        firsts: paired.reps,
     }
 }

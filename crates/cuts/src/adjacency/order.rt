@@ -1,9 +1,10 @@
 ghost use Rattle.std.specs.Prelude.{◌≡◌, ℕ, ◌<◌, ◌≤◌, length, MatchOption, ◌≢◌, slice_index};
 ghost use Rattle.cuts.specs.Links.{label, flagged, Matrix};
-ghost use Rattle.cuts.specs.Orders.{Most, Heaviest, under, flags, Ordered};
+ghost use Rattle.cuts.specs.Orders.{Most, Heaviest, under, flags, labels_of, weights_of, Ordered};
 
-use crate::adjacency::links::Links;
+use crate::adjacency::phase::Phase;
 use crate::adjacency::weights::add_row;
+use arrayvec::ArrayVec;
 
 /// The greatest of the first n.
 fn most(w: &[u16; 128], n: u8) -> Option<u16>
@@ -18,7 +19,10 @@ fn first_of(w: &[u16; 128], n: u8, k: u16) -> Option<u8>
     requires { n ≤ 128 }
     ensures { MatchOption result ((v : ℕ) → v < n → slice_index w.now v ≢ k) (λ m. (m < n) × (slice_index w.now m ≡ k)) }
 {
-    w[..n as usize].iter().position(|x| *x == k).map(|v| v as u8)
+    w[..n as usize]
+        .iter()
+        .position(|x| *x == k)
+        .map(|v| v as u8)
 }
 
 /// A greatest of the first n, if it is 2048 or more.
@@ -42,32 +46,31 @@ fn flags_below(n: u8) -> [bool; 128]
     left
 }
 
-/// Labels in the order in which they were placed, and what each weighed then.
-#[derive(Drop)]
-pub struct Placed {
-    pub places: [u8; 128],
-    pub weights: [u16; 128],
+/// A label, and what it weighed when it was placed.
+#[derive(Clone, Copy, Default)]
+pub struct Place {
+    pub label: u8,
+    pub weight: u16,
 }
 
-/// A maximum adjacency order of the labels below n: each in its turn has the most links to those placed before it.
+/// A maximum adjacency order of the labels: each in its turn has the most links to those placed before it.
 /// A label that is not placed yet has 2048 above its weight, so that one search for the greatest finds it.
-pub fn order(links: &Links, labels: &[u8; 128], m: &[u16; 16384], n: u8) -> Placed
-    requires matrix { Matrix (label labels.now) links.now.list.items m.now }
-    requires fits { n ≤ 128 }
-    ensures { Ordered (label labels.now) links.now.list.items (under n) result.places result.weights n }
+pub fn order(phase: &Phase, m: &[u16; 16384]) -> ArrayVec<Place, 128>
+    requires { Matrix (label phase.now.groups.now.labels) phase.now.links.now.list.items m.now }
+    ensures { Ordered (label phase.now.groups.now.labels) phase.now.links.now.list.items (under (length phase.now.groups.now.reps.items)) (labels_of result.items) (weights_of result.items) (length phase.now.groups.now.reps.items) }
 {
+    let n = phase.groups.len();
     let mut left = flags_below(n);
     let mut w = [2048u16; 128];
-    let mut places = [0u8; 128];
-    let mut weights = [0u16; 128];
-    let mut len: usize = 0;
-    while let Some(v) = heaviest(&w, n) {
-        places[len] = v;
-        weights[len] = w[v as usize] - 2048;
-        left[v as usize] = false;
-        w[v as usize] = 0;
-        add_row(m, v, &mut w);
-        len += 1;
+    let mut places = ArrayVec::new();
+    while let Some(label) = heaviest(&w, n) {
+        places.push(Place {
+            label,
+            weight: w[label as usize] - 2048,
+        });
+        left[label as usize] = false;
+        w[label as usize] = 0;
+        add_row(m, label, &mut w);
     }
-    Placed { places, weights }
+    places
 }

@@ -1,6 +1,7 @@
 ghost use Rattle.std.specs.Prelude.{◌≡◌, ℕ, ◌+◌, ◌<◌, ◌≤◌, ◌&&◌, ◌==◌, nat_eq, slice_index};
 ghost use Rattle.cuts.specs.Links.{one, label, joins, cell, Matrix, spans, degree};
 
+use crate::adjacency::groups::Groups;
 use crate::adjacency::link::Link;
 use crate::adjacency::links::Links;
 
@@ -15,13 +16,12 @@ fn bump(m: &mut [u16; 16384], x: u8, v: u8)
 }
 
 /// Counts a link into the matrix.
-fn add_link(l: &Link, labels: &[u8; 128], m: &mut [u16; 16384])
-    requires low { (d : ℕ) → d < 128 → slice_index labels.now d < 128 }
+fn add_link(l: &Link, groups: &Groups, m: &mut [u16; 16384])
     requires room { (y u : ℕ) → y < 128 → u < 128 → cell m.old y u ≤ 1000 }
-    ensures { (y u : ℕ) → y < 128 → u < 128 → cell m.new y u ≡ cell m.old y u + one (joins (label labels.now) y u l.now) }
+    ensures { (y u : ℕ) → y < 128 → u < 128 → cell m.new y u ≡ cell m.old y u + one (joins (label groups.now.labels) y u l.now) }
 {
-    let a = labels[l.a as usize];
-    let b = labels[l.b as usize];
+    let a = groups.labels[l.a as usize];
+    let b = groups.labels[l.b as usize];
     bump(m, a, b);
     if a != b {
         bump(m, b, a);
@@ -29,13 +29,12 @@ fn add_link(l: &Link, labels: &[u8; 128], m: &mut [u16; 16384])
 }
 
 /// Counts the links between each two labels into a matrix of zeros, 128 rows of 128.
-pub fn add_links(links: &Links, labels: &[u8; 128], m: &mut [u16; 16384])
-    requires low { (d : ℕ) → d < 128 → slice_index labels.now d < 128 }
+pub fn add_links(links: &Links, groups: &Groups, m: &mut [u16; 16384])
     requires empty { (y u : ℕ) → y < 128 → u < 128 → cell m.old y u ≡ 0 }
-    ensures { Matrix (label labels.now) links.now.list.items m.new }
+    ensures { Matrix (label groups.now.labels) links.now.list.items m.new }
 {
     for l in links.list.as_slice() {
-        add_link(l, labels, m);
+        add_link(l, groups, m);
     }
 }
 
@@ -53,13 +52,12 @@ pub fn add_row(m: &[u16; 16384], x: u8, w: &mut [u16; 128])
 }
 
 /// Counts a link into the degrees of what it joins.
-fn add_degree(l: &Link, labels: &[u8; 128], degrees: &mut [u16; 128])
-    requires low { (d : ℕ) → d < 128 → slice_index labels.now d < 128 }
+fn add_degree(l: &Link, groups: &Groups, degrees: &mut [u16; 128])
     requires room { (v : ℕ) → v < 128 → slice_index degrees.old v ≤ 1024 }
-    ensures { (v : ℕ) → v < 128 → slice_index degrees.new v ≡ slice_index degrees.old v + one (spans (λ d. nat_eq (label labels.now d) v) l.now) }
+    ensures { (v : ℕ) → v < 128 → slice_index degrees.new v ≡ slice_index degrees.old v + one (spans (λ d. nat_eq (label groups.now.labels d) v) l.now) }
 {
-    let a = labels[l.a as usize];
-    let b = labels[l.b as usize];
+    let a = groups.labels[l.a as usize];
+    let b = groups.labels[l.b as usize];
     if a != b {
         degrees[a as usize] += 1;
         degrees[b as usize] += 1;
@@ -67,13 +65,12 @@ fn add_degree(l: &Link, labels: &[u8; 128], degrees: &mut [u16; 128])
 }
 
 /// The degree of each label.
-pub fn all_degrees(links: &Links, labels: &[u8; 128]) -> [u16; 128]
-    requires low { (d : ℕ) → d < 128 → slice_index labels.now d < 128 }
-    ensures { (v : ℕ) → v < 128 → slice_index result v ≡ degree (label labels.now) links.now.list.items v }
+pub fn all_degrees(links: &Links, groups: &Groups) -> [u16; 128]
+    ensures { (v : ℕ) → v < 128 → slice_index result v ≡ degree (label groups.now.labels) links.now.list.items v }
 {
     let mut degrees = [0u16; 128];
     for l in links.list.as_slice() {
-        add_degree(l, labels, &mut degrees);
+        add_degree(l, groups, &mut degrees);
     }
     degrees
 }

@@ -1,28 +1,44 @@
-use Rattle.std.proofs.Common.{arith}
-use Rattle.cuts.proofs.adjacency.fusion.fuse.Goals as goal
+use Rattle.std.proofs.Common.{◌≤◌, ◌++◌, ◌-◌, ◌∷◌, [], List, length, replicate, set, sym, ap, ap₂, ◌∙◌, subst, ⊎_elim, arith}
+use Rattle.std.proofs.lemmas.Bool.{eqb-true, eqb-false, cases_lt}
+use Rattle.std.proofs.lemmas.List.{length-map}
+use Rattle.cuts.specs.declared.adjacency.order.Place.{Place}
 use Rattle.cuts.specs.Links.{label}
+use Rattle.cuts.specs.Orders.{labels_of, weights_of}
 use Rattle.cuts.proofs.Phases.{placed_at}
-use Rattle.cuts.proofs.Fusing.{upon_none, upon_new, upon_same, upon_all, upon_at}
-use Rattle.cuts.proofs.adjacency.fusion.fuse.Goals.{then-o-i, else-o-i}
+use Rattle.cuts.proofs.Fusing.{Upon, upon_none, upon_new, upon_same, upon_all, upon_at, place_low, label_at, weight_at}
+use Rattle.cuts.proofs.adjacency.fusion.fuse.Goals as goal
+use Rattle.cuts.proofs.adjacency.fusion.fuse.Goals.{then-is_empty, then-is_empty-via-then-is_empty, then-is_empty-via-else-is_empty+then-place-phase, else-is_empty+else-place-phase}
 
-pub loop-i-init : goal.loop-i-init
-loop-i-init c = upon_none (label c.args.labels.now) c.args.links.now.list.items c.args.best _ _ _ c.requires.ordered c.requires.two
+pub loop-place-init : goal.loop-place-init
+loop-place-init c =
+    subst (λ xs. Upon (label c.args.phase.now.groups.now.labels) c.args.phase.now.links.now.list.items c.args.phase.now.best (labels_of c.args.order.now.items) (weights_of c.args.order.now.items) (replicate 128 0) xs 0 (length xs))
+    (sym c.new-firsts.ensures) (upon_none _ _ _ _ _ _ c.requires)
 
-pub loop-i-preserved : goal.loop-i-preserved
-loop-i-preserved c =
-    elim c.if-o-i.branch [
-      | then-o-i w ↦ upon_at _ _ _ _ _ _ _ _ _ _ _ _ w.into-is w.firsts-is w.len-is (upon_new _ _ _ _ _ _ c.requires.ordered _ _ _ _ c.loop-i-test.true c.loop-i.invariant w.if-o-i.true)
-      | else-o-i w ↦ upon_at _ _ _ _ _ _ _ _ _ _ _ _ w.into-is w.firsts-is w.len-is (upon_same _ _ _ _ _ _ c.requires.ordered _ _ _ _ _ c.loop-i-test.true c.loop-i.invariant w.if-o-i.false (omega (arith, c.loop-i.invariant.1.some)))
+pub loop-place-preserved : goal.loop-place-preserved
+loop-place-preserved c =
+    let i = c.loop-place.place-index in
+    let low = place_low _ _ _ _ _ i c.as_slice-place-items.ensures.value c.loop-place-test.true c.requires in
+    let same = label_at _ _ i (record { label = 0; weight = 0 }) c.as_slice-place-items.ensures.value c.loop-place-test.true in
+    let weight = weight_at _ _ i (record { label = 0; weight = 0 }) c.as_slice-place-items.ensures.value c.loop-place-test.true in
+    elim c.if-is_empty.branch [
+      | then-is_empty w ↦ upon_at _ _ _ _ _ _ _ _ _ _ _
+          (ap₂ (λ x k. set c.loop-place.into x k) same (omega (arith, c.len.ensures.value, w.push.ensures.len, ap (λ v. length v.items) w.firsts-is)))
+          (ap (λ v. v.items) w.firsts-is ∙ (w.push.ensures.items ∙ ap (λ x. c.loop-place.firsts.items ++ x ∷ []) same))
+          (upon_new _ _ _ _ _ _ c.requires _ _ i _ low c.loop-place.invariant (λ begun. elim w.then-is_empty.branch [
+            | then-is_empty-via-then-is_empty u ↦ absurd (omega (arith, c.loop-place.invariant.some begun, eqb-true _ 0 (sym c.is_empty.ensures ∙ u.if-is_empty.true)))
+            | then-is_empty-via-else-is_empty+then-place-phase u ↦ omega (arith, weight, u.if-place-phase.true)
+          ]))
+      | else-is_empty+else-place-phase w ↦
+          let some : 1 ≤ i = ⊎_elim (λ h. h) (λ h. absurd (eqb-false _ 0 (sym c.is_empty.ensures ∙ w.if-is_empty.false) (omega (arith, c.loop-place.invariant.few)))) (cases_lt 0 i) in
+          upon_at _ _ _ _ _ _ _ _ _ _ _ (ap (λ x. set c.loop-place.into x (c.len.result - 1)) same) (ap (λ v. v.items) w.firsts-is)
+          (upon_same _ _ _ _ _ _ c.requires _ _ i _ (c.len.result - 1) low some c.loop-place.invariant (omega (arith, weight, w.if-place-phase.false))
+          (omega (arith, c.len.ensures.value, ap (λ v. length v.items) w.firsts-is, c.loop-place.invariant.some some)))
     ]
 
+pub bounds-into-place : goal.bounds-into-place
+bounds-into-place c =
+    omega (arith, label_at _ _ c.loop-place.place-index (record { label = 0; weight = 0 }) c.as_slice-place-items.ensures.value c.loop-place-test.true, (placed_at _ _ _ _ _ c.requires c.loop-place.place-index (place_low _ _ _ _ _ c.loop-place.place-index c.as_slice-place-items.ensures.value c.loop-place-test.true c.requires)).0, c.requires.fits)
+
 pub returns : goal.returns
-returns c = upon_all _ _ _ _ _ _ c.requires.ordered _ _ c.loop-i.i _ c.requires.two (omega arith) c.loop-i.invariant
-
-pub bounds-into-p : goal.bounds-into-p
-bounds-into-p c = omega (arith, (placed_at _ _ _ _ _ c.requires.ordered 0 (omega (arith, c.requires.two))).0, c.requires.fits)
-
-pub bounds-into-q : goal.bounds-into-q
-bounds-into-q c = omega (arith, (placed_at _ _ _ _ _ c.requires.ordered c.loop-i.i c.loop-i-test.true).0, c.requires.fits)
-
-pub bounds-into-q-else-o-i : goal.bounds-into-q-else-o-i
-bounds-into-q-else-o-i c = omega (arith, (placed_at _ _ _ _ _ c.requires.ordered c.loop-i.i c.loop-i-test.true).0, c.requires.fits)
+returns c = upon_all _ _ _ _ _ _ c.requires _ _ c.loop-place.place-index _ c.args.phase.now.two
+    (omega (arith, c.loop-place-test.false, c.loop-place.auto.place-index-end, ap (λ (ps : List Place). length ps) c.as_slice-place-items.ensures.value, length-map c.args.order.now.items (λ p. p.label), c.requires.long_places)) c.loop-place.invariant

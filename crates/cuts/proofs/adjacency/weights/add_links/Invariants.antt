@@ -4,4 +4,4 @@ use Rattle.cuts.proofs.adjacency.weights.add_links.Given as goal
 
 abbrev pub invariant-loop-l : goal.invariant-loop-l
 invariant-loop-l l = ((y u : ℕ) → y < 128 → u < 128 → cell l.m y u ≤ l.l-index)
-    × ((y u : ℕ) → y < 128 → u < 128 → cell l.m y u ≡ between (label l.labels) y u (take l.l-index l.links.list.items))
+    × ((y u : ℕ) → y < 128 → u < 128 → cell l.m y u ≡ between (label l.groups.labels) y u (take l.l-index l.links.list.items))

@@ -1,6 +1,0 @@
-use Rattle.cuts.specs.Links.{flagged}
-use Rattle.cuts.proofs.Numbering.{Numbering}
-use Rattle.cuts.proofs.adjacency.groups.number.Given as goal
-
-abbrev pub invariant-loop-d : goal.invariant-loop-d
-invariant-loop-d l = Numbering (flagged l.inside) l.d l.labels l.reps l.len
