@@ -1,9 +1,9 @@
 -- What one turn of the order does: a heaviest label is placed, and the weights of the rest grow by their links to it.
-use Rattle.std.proofs.Common.{◌≡◌, ℕ, suc, ◌+◌, ◌<◌, ◌≤◌, Bool, true, false, cond, not, ◌&&◌, List, [], ◌∷◌, ◌++◌, ◌-◌, reverse, length, map, get_or, set, replicate, sym, refl, ap, ◌∙◌, subst, ⊎_elim, arith}
-use Rattle.std.proofs.lemmas.List.{take_all, length-map, map-append, reverse-append, get_or-set_same, get_or-set_other, get_or-replicate, get_or_append_left, get_or-append_right, length-append, length-replicate, length-set}
+use Rattle.std.proofs.Common.{◌≡◌, ℕ, leb, zero, suc, ◌+◌, ◌<◌, ◌≤◌, Bool, true, false, cond, not, ◌&&◌, List, [], ◌∷◌, ◌++◌, reverse, length, map, get_or, take, set, replicate, sym, refl, ap, ◌∙◌, subst, ⊎_elim, arith}
+use Rattle.std.proofs.lemmas.List.{take_all, length-map, map-append, reverse-append, get_or-set_same, get_or-set_other, get_or-replicate, get_or-take, get_or-map, get_or_past, ext_get_or, take-replicate, length-take-le, length-append, length-replicate, length-set}
 use Rattle.std.proofs.lemmas.List.Folds.{sum_by-replicate}
-use Rattle.std.proofs.lemmas.List.Sums.{sum_by-append, sum_by-cons, sum_by-set, count_by-le-length}
-use Rattle.std.proofs.lemmas.Bool.{cases_eq, cases_Bool, ne_eqb, eq-eqb, cases_lt, le-ltb, lt-ltb, ltb-true, and_left, and_parts, true≢false}
+use Rattle.std.proofs.lemmas.List.Sums.{sum_by-cons, sum_by-set, count_by-le-length}
+use Rattle.std.proofs.lemmas.Bool.{cases_eq, cases_Bool, ne_eqb, eq-eqb, cases_lt, le-ltb, lt-ltb, le-leb, lt-leb, ltb-true, and_left, and_parts, true≢false}
 use Rattle.std.proofs.lemmas.Bool.Decides.{nat_tests}
 use Rattle.cuts.specs.declared.adjacency.link.Link.{Link}
 use Rattle.cuts.specs.Links.{flagged, joins, between, one}
@@ -24,7 +24,7 @@ pub record Placing (L : ℕ → ℕ) (ls : List Link) (left : List Bool) (w : Li
   pub shut_w : (d : ℕ) → d < m → flagged left d ≡ false → get_or w d 0 ≤ towards L ls (placed ps) d
   pub fits : flags left + length ps ≡ m
   pub most : m ≤ 128
-  pub long_left : length left ≡ 128
+  pub long_left : length left ≡ m
   pub long_w : length w ≡ 128
 
 toward_more : (L : ℕ → ℕ) (xs : List ℕ) (x v : ℕ) (l : Link) → among xs x ≡ false → one (toward L (x ∷ xs) v l) ≡ one (toward L xs v l) + one (joins L x v l)
@@ -50,19 +50,54 @@ not_none : (s : Bool) → s ≡ (s && true)
 not_none true = refl
 not_none false = refl
 
-pub placing_none : (L : ℕ → ℕ) (ls : List Link) (left : List Bool) (m : ℕ) → length left ≡ 128 → ((d : ℕ) → d < 128 → flagged left d ≡ under m d) → flags left ≡ m → m ≤ 128
-    → Placing L ls left (replicate 128 2048) [] m
-placing_none L ls left m long e f most = record {
+-- which labels below m are left, as the weights tell
+abbrev pub lefts : List ℕ → ℕ → List Bool
+lefts w m = map (λ x. leb 2048 x) (take m w)
+
+lefts_all : (m : ℕ) → m ≤ 128 → lefts (replicate 128 2048) m ≡ replicate m true
+lefts_all m h = ap (map (λ x. leb 2048 x)) (take-replicate m 128 2048 h) ∙ tests m
+  where
+    tests : (k : ℕ) → map (λ x. leb 2048 x) (replicate k 2048) ≡ replicate k true
+    tests zero = refl
+    tests (suc k) = ap (λ xs. true ∷ xs) (tests k)
+
+placing_first : (L : ℕ → ℕ) (ls : List Link) (m : ℕ) → m ≤ 128 → Placing L ls (replicate m true) (replicate 128 2048) [] m
+placing_first L ls m most = record {
   greedy = tt;
-  rests = λ d h. e d h ∙ not_none (under m d);
+  rests = λ d h. e d ∙ not_none (under m d);
   bound = λ d h. omega (arith, get_or-replicate {A = ℕ} 128 d 2048 0 h);
   open_w = λ d h _. omega (arith, get_or-replicate {A = ℕ} 128 d 2048 0 h, towards_none L ls d);
-  shut_w = λ d h no-left. absurd (true≢false (sym (e d (omega arith) ∙ lt-ltb d m h) ∙ no-left));
-  fits = omega arith;
+  shut_w = λ d h no-left. absurd (true≢false (sym (e d ∙ lt-ltb d m h) ∙ no-left));
+  fits = omega (arith, sum_by-replicate (λ b. one b) m true);
   most = most;
-  long_left = long;
+  long_left = length-replicate m true;
   long_w = refl;
 }
+  where
+    e : (d : ℕ) → flagged (replicate m true) d ≡ under m d
+    e d = ⊎_elim
+        (λ l. get_or-replicate m d true false l ∙ sym (lt-ltb d m l))
+        (λ l. get_or_past (replicate m true) d false (omega (arith, length-replicate m true, l)) ∙ sym (le-ltb d m l))
+        (cases_lt d m)
+
+pub placing_none : (L : ℕ → ℕ) (ls : List Link) (m : ℕ) → m ≤ 128 → Placing L ls (lefts (replicate 128 2048) m) (replicate 128 2048) [] m
+placing_none L ls m most = subst (λ left. Placing L ls left (replicate 128 2048) [] m) (sym (lefts_all m most)) (placing_first L ls m most)
+
+-- the weights tell which are left
+lefts_are : (L : ℕ → ℕ) (ls : List Link) (left : List Bool) (w : List ℕ) (ps : List Place) (m : ℕ) → length ls ≤ 512 → Placing L ls left w ps m → left ≡ lefts w m
+lefts_are L ls left w ps m short p = ext_get_or false left (lefts w m) (omega (arith, p.long_left, length-map (take m w) (λ x. leb 2048 x), cut)) (λ d h. told d (omega (arith, p.long_left, h)) ∙ sym (at d (omega (arith, p.long_left, h))))
+  where
+    cut : length (take m w) ≡ m
+    cut = length-take-le m w (omega (arith, p.long_w, p.most))
+
+    at : (d : ℕ) → d < m → get_or (lefts w m) d false ≡ leb 2048 (get_or w d 0)
+    at d h = get_or-map (λ x. leb 2048 x) (take m w) d 0 false (omega (arith, cut, h)) ∙ ap (leb 2048) (get_or-take m w d 0 h)
+
+    told : (d : ℕ) → d < m → get_or left d false ≡ leb 2048 (get_or w d 0)
+    told d h = ⊎_elim
+        (λ t. t ∙ sym (le-leb 2048 (get_or w d 0) (omega (arith, p.open_w d (omega (arith, h, p.most)) t))))
+        (λ f. f ∙ sym (lt-leb 2048 (get_or w d 0) (omega (arith, p.shut_w d h f, count_by-le-length (toward L (placed ps) d) ls, short))))
+        (cases_Bool (get_or left d false))
 
 rest_new : (s a : Bool) → (s && not a) ≡ true → a ≡ false
 rest_new true true h = sym h
@@ -135,7 +170,7 @@ module _ (L : ℕ → ℕ) (ls : List Link) (left : List Bool) (w : List ℕ) (p
           (λ d h o. let l = p.rests d h ∙ o in omega (arith, most d (ltb-true d m (and_parts (under m d) _ o).0), p.open_w d h l)),
           p.greedy,
         );
-        rests = λ d h. rw e (rests_more left (under m) xs v d (omega arith) (p.rests d h));
+        rests = λ d h. rw e (rests_more left (under m) xs v d (omega (arith, p.long_left, low-m)) (p.rests d h));
         bound = λ d h. rw e (⊎_elim
             (λ q. omega (arith, ap (λ x. get_or (set w v 0) x 0) q, z, added d h, towards_more L ls xs v d new))
             (λ ne. omega (arith, get_or-set_other w v d 0 0 ne, added d h, p.bound d h, towards_more L ls xs v d new))
@@ -157,6 +192,13 @@ module _ (L : ℕ → ℕ) (ls : List Link) (left : List Bool) (w : List ℕ) (p
       gone : flagged (set left v false) v ≡ false
       gone = get_or-set_same left v false false (omega (arith, p.long_left, p.most))
 
+  -- the same by the weights, and fewer are left
+  pub placing_next : (v : ℕ) (ps' : List Place) (w' : List ℕ) → v < m → 2048 ≤ get_or w v 0 → Placing L ls (set left v false) w' ps' m
+      → Placing L ls (lefts w' m) w' ps' m × (flags (lefts w' m) < flags left)
+  placing_next v ps' w' low big q =
+      let e = lefts_are L ls (set left v false) w' ps' m short q in
+      (subst (λ z. Placing L ls z w' ps' m) e q, omega (arith, ap flags e, (room v low big).1))
+
   pub placing_all : ((k : ℕ) → k < m → get_or w k 0 < 2048)
       → Ordered L ls (under m) (labels_of ps) (weights_of ps) m
   placing_all none =
@@ -174,19 +216,7 @@ module _ (L : ℕ → ℕ) (ls : List Link) (left : List Bool) (w : List ℕ) (p
           (λ g. p.rests d h ∙ and_left (under m d) _ (le-ltb d m g)) (cases_lt d m)
 
       all : length ps ≡ m
-      all = omega (arith, p.fits, none_flags left (λ k l. every k (omega (arith, p.long_left))))
-
--- of 128 flags the first n are set
-pub flags_front : (n : ℕ) (left : List Bool) → n ≤ 128 → left ≡ replicate n true ++ replicate (128 - n) false
-    → (length left ≡ 128) × (flags left ≡ n) × ((k : ℕ) → k < 128 → flagged left k ≡ under n k)
-flags_front n left h e = (
-  ap (λ (xs : List Bool). length xs) e ∙ omega (arith, length-append (replicate n true) (replicate (128 - n) false), length-replicate n true, length-replicate (128 - n) false),
-  ap flags e ∙ omega (arith, sum_by-append (λ b. one b) (replicate n true) (replicate (128 - n) false), sum_by-replicate (λ b. one b) n true, sum_by-replicate (λ b. one b) (128 - n) false),
-  λ k b. ap (λ xs. flagged xs k) e ∙ ⊎_elim
-      (λ l. get_or_append_left (replicate n true) (replicate (128 - n) false) false k (omega (arith, length-replicate n true, l)) ∙ (get_or-replicate n k true false l ∙ sym (lt-ltb k n l)))
-      (λ l. get_or-append_right (replicate n true) (replicate (128 - n) false) n k false (length-replicate n true) l ∙ (get_or-replicate (128 - n) (k - n) false false (omega arith) ∙ sym (le-ltb k n l)))
-      (cases_lt k n),
-)
+      all = omega (arith, p.fits, none_flags left (λ k l. every k (omega (arith, l, p.long_left, p.most))))
 
 pub cleared : (w : List ℕ) (v d b : ℕ) → v < length w → get_or w d 0 ≤ b → get_or (set w v 0) d 0 ≤ b
 cleared w v d b h l = ⊎_elim

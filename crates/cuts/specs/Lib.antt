@@ -5,3 +5,4 @@ pub mod Links
 pub mod Orders
 pub mod Fusions
 pub mod Groups
+pub mod Phases

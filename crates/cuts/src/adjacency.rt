@@ -1,6 +1,7 @@
 ghost use Rattle.std.specs.Prelude.{◌≤◌, length};
 ghost use Rattle.cuts.specs.Members.{set_of};
 ghost use Rattle.cuts.specs.Links.{label, Ends};
+ghost use Rattle.cuts.specs.Phases.{links_in};
 ghost use Rattle.cuts.specs.Groups.{Numbered, Lightest, Coarser, Weakest};
 
 use crate::devices::Devices;
@@ -38,7 +39,7 @@ fn lightest_split(links: &Links, groups: &Groups) -> Cut
 
 /// The groups after a phase: fewer, with no split lost that fewer links than the best cross.
 fn coarser(phase: &Phase) -> Groups
-    ensures { Coarser phase.now.links.now.list.items phase.now.best phase.now.groups.now result }
+    ensures { Coarser (links_in phase.now) phase.now.best phase.now.groups.now result }
 {
     let fused = shrink(phase);
     Groups {

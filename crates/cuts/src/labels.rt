@@ -10,6 +10,7 @@ pub fn own_labels() -> [u8; 128]
     ensures own { (d : ℕ) → d < 128 → slice_index result d ≡ d }
 {
     let mut labels = [0u8; 128];
+    // By index: of a loop over `iter_mut().enumerate()` a proof knows nothing of what was written.
     for d in 0..128u8 {
         labels[d as usize] = d;
     }

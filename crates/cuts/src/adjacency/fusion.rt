@@ -1,5 +1,6 @@
 ghost use Rattle.std.specs.Prelude.{◌≡◌, ℕ, ◌-◌, ◌<◌, ◌≤◌, ◌&&◌, length, ◌==◌, nat_lt, slice_index};
 ghost use Rattle.cuts.specs.Links.{label, cell, degree, flagged, Matrix};
+ghost use Rattle.cuts.specs.Phases.{label_in, links_in, count_in};
 ghost use Rattle.cuts.specs.Orders.{under, labels_of, weights_of, Ordered};
 ghost use Rattle.cuts.specs.Fusions.{Fused, pairs, Moved};
 
@@ -19,8 +20,8 @@ pub struct Fusion {
 
 /// Fuses each label that weighed as much as the best split or more with the one placed before it.
 fn fuse(phase: &Phase, order: &ArrayVec<Place, 128>) -> Fusion
-    requires { Ordered (label phase.now.groups.now.labels) phase.now.links.now.list.items (under (length phase.now.groups.now.reps.items)) (labels_of order.now.items) (weights_of order.now.items) (length phase.now.groups.now.reps.items) }
-    ensures { Fused (label phase.now.groups.now.labels) phase.now.links.now.list.items (length phase.now.groups.now.reps.items) phase.now.best (slice_index (weights_of order.now.items) (length phase.now.groups.now.reps.items - 1)) result.into result.firsts.items (length result.firsts.items) }
+    requires { Ordered (label_in phase.now) (links_in phase.now) (under (count_in phase.now)) (labels_of order.now.items) (weights_of order.now.items) (count_in phase.now) }
+    ensures { Fused (label_in phase.now) (links_in phase.now) (count_in phase.now) phase.now.best (slice_index (weights_of order.now.items) (count_in phase.now - 1)) result.into result.firsts.items (length result.firsts.items) }
 {
     let mut into = [0u8; 128];
     let mut firsts = ArrayVec::new();
@@ -46,8 +47,8 @@ fn may_pair(m: &[u16; 16384], degrees: &[u16; 128], used: &[bool; 128], a: u8, b
 
 /// Moves labels to others that half of their links go to.
 fn pair_up(phase: &Phase, m: &[u16; 16384]) -> [u8; 128]
-    requires { Matrix (label phase.now.groups.now.labels) phase.now.links.now.list.items m.now }
-    ensures moved { Moved (label phase.now.groups.now.labels) phase.now.links.now.list.items (length phase.now.groups.now.reps.items) phase.now.best result }
+    requires { Matrix (label_in phase.now) (links_in phase.now) m.now }
+    ensures moved { Moved (label_in phase.now) (links_in phase.now) (count_in phase.now) phase.now.best result }
     ensures low { (x : ℕ) → x < 128 → slice_index result x < 128 }
 {
     let labels = &phase.groups.labels;
@@ -81,7 +82,7 @@ fn roots(to: &[u8; 128], n: u8) -> [bool; 128]
 /// Fewer labels, with no split lost that fewer links than the best cross. An order fuses most rigs fast; where it leaves
 /// more than half of the labels, as in a ring, pairing may leave fewer.
 pub fn shrink(phase: &Phase) -> Fusion
-    ensures { Fused (label phase.now.groups.now.labels) phase.now.links.now.list.items (length phase.now.groups.now.reps.items) phase.now.best phase.now.best result.into result.firsts.items (length result.firsts.items) }
+    ensures { Fused (label_in phase.now) (links_in phase.now) (count_in phase.now) phase.now.best phase.now.best result.into result.firsts.items (length result.firsts.items) }
 {
     let n = phase.groups.len();
     let mut m = [0u16; 16384];

@@ -1,6 +1,7 @@
-ghost use Rattle.std.specs.Prelude.{◌≡◌, ℕ, ◌<◌, ◌≤◌, length, MatchOption, ◌≢◌, slice_index};
-ghost use Rattle.cuts.specs.Links.{label, flagged, Matrix};
-ghost use Rattle.cuts.specs.Orders.{Most, Heaviest, under, flags, labels_of, weights_of, Ordered};
+ghost use Rattle.std.specs.Prelude.{◌≡◌, ℕ, ◌<◌, ◌≤◌, MatchOption, ◌≢◌, slice_index};
+ghost use Rattle.cuts.specs.Links.{Matrix};
+ghost use Rattle.cuts.specs.Phases.{label_in, links_in, count_in};
+ghost use Rattle.cuts.specs.Orders.{Most, Heaviest, under, labels_of, weights_of, Ordered};
 
 use crate::adjacency::phase::Phase;
 use crate::adjacency::weights::add_row;
@@ -34,18 +35,6 @@ fn heaviest(w: &[u16; 128], n: u8) -> Option<u8>
     if k < 2048 { None } else { first_of(w, n, k) }
 }
 
-/// The flags of the labels below n.
-fn flags_below(n: u8) -> [bool; 128]
-    requires { n ≤ 128 }
-    ensures set { (d : ℕ) → d < 128 → flagged result d ≡ under n d }
-    ensures many { flags result ≡ n }
-    ensures len { length result ≡ 128 }
-{
-    let mut left = [false; 128];
-    left[..n as usize].fill(true);
-    left
-}
-
 /// A label, and what it weighed when it was placed.
 #[derive(Clone, Copy, Default)]
 pub struct Place {
@@ -56,11 +45,10 @@ pub struct Place {
 /// A maximum adjacency order of the labels: each in its turn has the most links to those placed before it.
 /// A label that is not placed yet has 2048 above its weight, so that one search for the greatest finds it.
 pub fn order(phase: &Phase, m: &[u16; 16384]) -> ArrayVec<Place, 128>
-    requires { Matrix (label phase.now.groups.now.labels) phase.now.links.now.list.items m.now }
-    ensures { Ordered (label phase.now.groups.now.labels) phase.now.links.now.list.items (under (length phase.now.groups.now.reps.items)) (labels_of result.items) (weights_of result.items) (length phase.now.groups.now.reps.items) }
+    requires { Matrix (label_in phase.now) (links_in phase.now) m.now }
+    ensures { Ordered (label_in phase.now) (links_in phase.now) (under (count_in phase.now)) (labels_of result.items) (weights_of result.items) (count_in phase.now) }
 {
     let n = phase.groups.len();
-    let mut left = flags_below(n);
     let mut w = [2048u16; 128];
     let mut places = ArrayVec::new();
     while let Some(label) = heaviest(&w, n) {
@@ -68,7 +56,6 @@ pub fn order(phase: &Phase, m: &[u16; 16384]) -> ArrayVec<Place, 128>
             label,
             weight: w[label as usize] - 2048,
         });
-        left[label as usize] = false;
         w[label as usize] = 0;
         add_row(m, label, &mut w);
     }

@@ -46,6 +46,7 @@ pub fn add_row(m: &[u16; 16384], x: u8, w: &mut [u16; 128])
     ensures { (v : ℕ) → v < 128 → slice_index w.new v ≡ slice_index w.old v + cell m.now x v }
 {
     let from = x as usize * 128;
+    // By index: of a loop over `iter_mut().zip(..)` a proof knows nothing of what was written.
     for v in 0..128usize {
         w[v] += m[from + v];
     }
