@@ -1,5 +1,5 @@
 -- Pairing labels, by one more pair at a time, and the fusion that it gives.
-use Rattle.std.proofs.Common.{◌≡◌, ℕ, ◌+◌, ◌<◌, ◌≤◌, Bool, true, false, cond, not, ◌&&◌, eqb, ltb, leb, ◌⊎◌, List, length, get_or, set, replicate, sym, refl, ap, ◌∙◌, subst, inl, inr, ⊎_elim, arith}
+use Rattle.std.proofs.Common.{◌≡◌, ℕ, ◌+◌, ◌<◌, ◌≤◌, Bool, true, false, cond, not, ◌&&◌, eqb, ltb, leb, ◌⊎◌, List, length, get_or, set, sym, ap, ◌∙◌, subst, inl, inr, ⊎_elim, arith}
 use Rattle.std.proofs.lemmas.List.{get_or-set_same, get_or-set_other, length-set}
 use Rattle.std.proofs.lemmas.Bool.{cases_eq, eq-eqb, ne_eqb, eqb-false, true≢false, and_parts, not-true, leb-true, ltb-true, lt-ltb, eqb-true, and_from}
 use Rattle.cuts.specs.declared.adjacency.link.Link.{Link}
@@ -25,17 +25,6 @@ kept_true xs a d h t = ⊎_elim
     (cases_eq d a)
 
 module _ (L : ℕ → ℕ) (ls : List Link) (n best : ℕ) where
-  pub pairing_none : (to : List ℕ) → n ≤ 128 → length to ≡ 128 → ((d : ℕ) → d < 128 → get_or to d 0 ≡ d) → Pairing L ls n best to (replicate 128 false)
-  pairing_none to fits long e = record {
-    movable = λ B two. inl (B, two, (λ x h. ap B (e x (omega arith))), omega arith);
-    low = λ x h. omega (arith, e x (omega arith));
-    low_all = λ x h. omega (arith, e x h);
-    still = λ x h. ap (label to) (e x (omega arith));
-    fresh = λ x h. inl (e x (omega arith));
-    long_to = long;
-    long_used = refl;
-  }
-
   movable_same : (to to' : ℕ → ℕ) → ((x : ℕ) → x < n → to' x ≡ to x) → Movable L ls n best to → Movable L ls n best to'
   movable_same to to' e m B two = ⊎_elim (λ q. inl (q.0, q.1, (λ x h. ap q.0 (e x h) ∙ q.2 x h), q.3)) (λ h. inr h) (m B two)
 
@@ -113,9 +102,6 @@ module _ (L : ℕ → ℕ) (ls : List Link) (n best : ℕ) where
 
   pub pairing_at : (to to' : List ℕ) (used used' : List Bool) → to ≡ to' → used ≡ used' → Pairing L ls n best to' used' → Pairing L ls n best to used
   pairing_at to to' used used' a b p = subst (λ z. Pairing L ls n best z used) (sym a) (subst (λ z. Pairing L ls n best to' z) (sym b) p)
-
-  pub pairing_all : (to : List ℕ) (used : List Bool) → Pairing L ls n best to used → Moved L ls n best to
-  pairing_all to used p = record { movable = p.movable; low = p.low; still = p.still }
 
   pub fused_by_pairs : (to labels reps into : List ℕ) (S : ℕ → Bool) (c : ℕ)
       → n ≤ 128 → 2 ≤ n → Moved L ls n best to
