@@ -1,5 +1,6 @@
 -- The other side of a cut parts what the cut parts, so the side that faces the list serves to shed as the cut does. Assumes nothing.
-use Rattle.std.proofs.Common.{◌≡◌, ℕ, ◌<◌, ◌≤◌, max, Bool, true, false, not, eqb, ◌⊎◌, List, length, get_or, sym, refl, ap, ◌∙◌, subst, inl, inr, ⊎_elim, arith}
+use Rattle.std.proofs.Common.{◌≡◌, ℕ, ◌<◌, ◌≤◌, max, Bool, true, false, not, eqb, ◌⊎◌, List, sym, ap, ◌∙◌, inl, inr, ⊎_elim, arith}
+use Rattle.std.proofs.Math.Bool.{not-not}
 use Rattle.std.proofs.lemmas.Bool.{and_parts, not_from_false, cases_Bool}
 use Rattle.network.specs.Sets.{Split, crosses, crossings}
 use Rattle.network.specs.Sheets.{inside}
@@ -8,16 +9,15 @@ use Rattle.network.proofs.Counts.{count_le}
 use Rattle.network.proofs.Sides.{crosses_belongs, crosses_parts, crosses_from, split_apart, split_differs}
 use Rattle.network.proofs.Parts.{inside_says}
 use Rattle.cuts.specs.Finding.{Finds}
+use Rattle.cuts.specs.Members.{set_of}
+use Rattle.cuts.specs.declared.devices.Devices.{Devices}
 use Rattle.marks.specs.Shedding.{Shear}
 use Rattle.marks.specs.State.{number}
-use Rattle.marks.proofs.Turns.{cut_shear}
+use Rattle.marks.proofs.Turns.{found_inside, finds_shear}
 use Rattle.cutsheets.specs.Listing.{Meets, Facing}
 
 not_same : (x y : Bool) → not x ≡ not y → x ≡ y
-not_same true true e = refl
-not_same true false e = sym e
-not_same false true e = sym e
-not_same false false e = refl
+not_same x y e = sym (not-not x) ∙ ap not e ∙ not-not y
 
 -- where no device of D is on a side, all are on the other
 pub facing_opposite : (D side r : ℕ → Bool) → ((d : ℕ) → D d ≡ true → d < 128) → (Meets D side → ⊥) → ((d : ℕ) → d < 128 → r d ≡ not (side d)) → Facing D side r
@@ -58,7 +58,7 @@ module _ (cs : List Cable) (D side r : ℕ → Bool) (part : ℕ → ℕ) (p f m
   facing_shear s = record { split = facing_split s.split; few = omega (arith, facing_few, s.few); above = s.above; tied = s.tied }
 
 -- what a finder finds of the devices of part p, turned to face the list
-pub facing_cut : (cs : List Cable) (D side r : ℕ → Bool) (part : List ℕ) (p f k m : ℕ) (all : List Bool) → length all ≡ 128 → ((d : ℕ) → d < 128 → get_or all d false ≡ eqb (number part d) p)
-    → Finds cs (λ d. get_or all d false) f k side → m ≡ max f k → Facing D side r → Shear cs (inside (number part) p) f m r
-facing_cut cs D side r part p f k m all long is found greater face = facing_shear cs D side r (number part) p f m face
-    (subst (λ h. Shear cs (inside (number part) p) f h side) (sym greater) (cut_shear cs part p f k all side long is found))
+pub facing_cut : (cs : List Cable) (D side r : ℕ → Bool) (part : List ℕ) (p f k m : ℕ) (all : Devices) → ((d : ℕ) → d < 128 → set_of all d ≡ eqb (number part d) p)
+    → Finds cs (set_of all) f k side → m ≡ max f k → Facing D side r → Shear cs (inside (number part) p) f m r
+facing_cut cs D side r part p f k m all is found greater face =
+    facing_shear cs D side r (number part) p f m face (finds_shear cs (inside (number part) p) f k m side greater (found_inside cs part p f k all side is found))

@@ -11,8 +11,9 @@ ghost use Rattle.cutsheets.specs.Listing.{Names, Meets, Facing};
 
 use cuts::devices::Devices;
 use cuts::finder::Finder;
+use cuts::labels::labelled;
 use cuts::rig::Rig;
-use marks::{inside_of, move_side, one_part};
+use marks::move_side;
 
 /// A cut sheet, as the part of each device, and the strength that it shows.
 #[derive(Clone, Copy)]
@@ -25,26 +26,18 @@ pub struct OwnSheet {
 fn meets(devices: &Devices, side: &Devices) -> bool
     ensures { Decides result (Meets (set_of devices.now) (set_of side.now)) }
 {
-    let listed = devices.flags();
-    let flags = side.flags();
-    for d in 0..128usize {
-        if listed[d] && flags[d] {
-            return true;
-        }
-    }
-    false
+    devices
+        .flags()
+        .iter()
+        .zip(side.flags())
+        .any(|(listed, on)| *listed && *on)
 }
 
 // The devices that are not on the side.
 fn opposite(side: &Devices) -> Devices
     ensures { (d : ℕ) → d < 128 → set_of result d ≡ not (set_of side.now d) }
 {
-    let flags = side.flags();
-    let mut others = [false; 128];
-    for d in 0..128usize {
-        others[d] = !flags[d];
-    }
-    Devices::from_flags(others)
+    Devices::from_flags(side.flags().map(|on| !on))
 }
 
 // The side, or the other one where no listed device is on it.
@@ -67,18 +60,22 @@ pub fn own_sheet<F: Finder>(finder: &F, rig: &Rig, devices: &Devices) -> OwnShee
     ensures low { (d : ℕ) → d < 128 → number result.parts d < 128 }
     ensures long { length result.parts ≡ 128 }
 {
-    let mut parts = one_part();
-    let mut strength: u16 = 0;
-    let mut core: u8 = 0;
-    while let Some(cut) = finder.find(rig, &inside_of(&parts, core), strength) {
-        strength = strength.max(cut.crossings);
+    let mut sheet = OwnSheet {
+        parts: [0; 128],
+        strength: 0,
+    };
+    for core in 0..128u8 {
+        let all = labelled(&sheet.parts, core);
+        let Some(cut) = finder.find(rig, &all, sheet.strength) else {
+            break;
+        };
+        sheet.strength = sheet.strength.max(cut.crossings);
         let near = facing(devices, cut.side);
         let far = opposite(&near);
-        move_side(&mut parts, &near, core, core + 1);
+        move_side(&mut sheet.parts, &near, core, core + 1);
         if meets(devices, &far) {
-            return OwnSheet { parts, strength };
+            break;
         }
-        core += 1;
     }
-    OwnSheet { parts, strength }
+    sheet
 }

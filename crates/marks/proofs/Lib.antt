@@ -1,4 +1,3 @@
-pub mod Stamps
 pub mod Sheds
 pub mod Numberings
 pub mod Turns

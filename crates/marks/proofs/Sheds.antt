@@ -1,6 +1,6 @@
 -- Parts, floors, and the marks that cuts give. Assumes nothing.
-use Rattle.std.proofs.Common.{◌≡◌, ℕ, ◌<◌, ◌≤◌, Bool, true, false, cond, eqb, ◌⊎◌, List, [], ◌∷◌, sym, ap, ◌∙◌, subst, inl, inr, ⊎_elim, arith}
-use Rattle.std.proofs.lemmas.Bool.{both_ways, and_parts, and_from, eqb-true, eq-eqb, cases_Bool, cases_lt, cases_eq, cond-true, cond-false}
+use Rattle.std.proofs.Common.{◌≡◌, ℕ, ◌<◌, ◌≤◌, Bool, true, false, cond, ◌⊎◌, List, [], ◌∷◌, sym, ap, ◌∙◌, subst, inl, inr, ⊎_elim, arith}
+use Rattle.std.proofs.lemmas.Bool.{both_ways, and_parts, and_from, cases_Bool, cases_lt, cases_eq, cond-true, cond-false}
 use Rattle.network.specs.Cables.{Lawful}
 use Rattle.network.specs.Sets.{DeviceSet, WeakSplit, crosses}
 use Rattle.network.specs.Lists.{member, Contains, ListStrength, Mark, ends}
@@ -125,24 +125,22 @@ module _ (cs : List Cable) (part floor part' floor' : ℕ → ℕ) (p q m : ℕ)
       (cases_eq (part d) p)
 
   -- the cables between the two sides have their marks
-  pub shed_marks : (mark mark' : ℕ → ℕ) → Lawful cs → MarkedApart cs part mark → Marking cs part p m side mark mark' → MarkedApart cs part' mark'
+  pub shed_marks : (mark mark' : ℕ → ℕ) → Lawful cs → MarkedApart cs part mark → Marking cs (inside part p) m side mark mark' → MarkedApart cs part' mark'
   shed_marks mark mark' lawful marked marking i c st apart = subst (λ k. Mark cs c k) (sym (marking i c st)) (⊎_elim on off (cases_Bool crossing))
     where
       crossing : Bool
-      crossing = crosses (λ d. eqb (part d) p) side c
+      crossing = crosses (inside part p) side c
 
       low : (c.a < 128) × (c.b < 128)
       low = let l = lawful i c st in (l.0, l.1)
 
       on : crossing ≡ true → Mark cs c (cond crossing m (mark i))
       on t =
-          let b = and_parts (eqb (part c.a) p) (eqb (part c.b) p) (crosses_belongs (λ d. eqb (part d) p) side c t) in
-          let ea = eqb-true (part c.a) p b.0 in
-          let eb = eqb-true (part c.b) p b.1 in
+          let b = and_parts (inside part p c.a) (inside part p c.b) (crosses_belongs (inside part p) side c t) in
           subst (λ k. Mark cs c k) (sym (cond-true crossing m (mark i) t))
-          (shed_lists cs part floor p m side shed s (ends c) (two_has (inside part p) c.a c.b (inside_from part p c.a low.0 ea) (inside_from part p c.b low.1 eb)) c.a c.b
+          (shed_lists cs part floor p m side shed s (ends c) (two_has (inside part p) c.a c.b b.0 b.1) c.a c.b
           (here c.a (c.b ∷ [])) (there c.a c.b (c.b ∷ []) (here c.b []))
-          (λ e. apart (turned_same c.a c.b low.0 low.1 ea eb e)))
+          (λ e. apart (turned_same c.a c.b low.0 low.1 (inside_says part p c.a b.0).1 (inside_says part p c.b b.1).1 e)))
 
       -- it was between two parts before the turn
       off : crossing ≡ false → Mark cs c (cond crossing m (mark i))
@@ -151,7 +149,7 @@ module _ (cs : List Cable) (part floor part' floor' : ℕ → ℕ) (p q m : ℕ)
           within : part c.a ≡ p → part c.b ≡ p → part' c.a ≡ part' c.b
           within ea eb = ⊎_elim
               (λ e. turned_same c.a c.b low.0 low.1 ea eb e)
-              (λ n. absurd (both_ways crossing f (crosses_from (λ d. eqb (part d) p) side c (and_from (eqb (part c.a) p) (eqb (part c.b) p) (eq-eqb (part c.a) p ea) (eq-eqb (part c.b) p eb)) n)))
+              (λ n. absurd (both_ways crossing f (crosses_from (inside part p) side c (and_from (inside part p c.a) (inside part p c.b) (inside_from part p c.a low.0 ea) (inside_from part p c.b low.1 eb)) n)))
               (same_or (side c.a) (side c.b))
 
           joined : part c.a ≡ part c.b → part' c.a ≡ part' c.b

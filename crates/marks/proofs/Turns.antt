@@ -1,20 +1,22 @@
 -- Turns over arrays, from one part to single devices. Assumes nothing.
-use Rattle.std.proofs.Common.{◌≡◌, ℕ, suc, ◌+◌, ◌<◌, ◌≤◌, max, Bool, true, false, ◌&&◌, eqb, ltb, ◌⊎◌, List, length, get_or, set, replicate, sym, refl, ap, ◌∙◌, subst, inl, inr, ⊎_elim, arith}
+use Rattle.std.proofs.Common.{◌≡◌, ℕ, suc, ◌+◌, ◌<◌, ◌≤◌, max, Bool, true, false, ◌&&◌, eqb, ltb, List, length, set, replicate, sym, refl, ap, ◌∙◌, subst, ⊎_elim, arith}
 use mathlib.Core.Path.{fun_ext}
-use lib.ListN.{get_or-replicate}
-use Rattle.std.proofs.lemmas.List.{get_or-set_same, get_or-set_other, get_or_past, length-set, length-replicate}
-use Rattle.std.proofs.lemmas.Bool.{and_from, and_left, and_right, le-ltb, lt-ltb, eq-eqb, ne_eqb, cases_lt, cases_eq, cond-true, cond-false}
+use Rattle.std.proofs.lemmas.List.{get_or-replicate, get_or-set_same, get_or-set_other, get_or_past, length-set, length-replicate}
+use Rattle.std.proofs.lemmas.Bool.{and_from, and_left, and_right, le-ltb, lt-ltb, eq-eqb, ne_eqb, cases_Bool, cases_lt, cases_eq, cond-true, cond-false}
 use Rattle.network.specs.Cables.{Lawful}
-use Rattle.network.specs.Sets.{DeviceSet}
+use Rattle.network.specs.Sets.{DeviceSet, Tied}
 use Rattle.network.specs.Sheets.{Lone}
 use Rattle.network.specs.Marks.{Marks}
 use Rattle.network.specs.declared.cable.Cable.{Cable}
 use Rattle.network.proofs.Parts.{inside_says, inside_from}
 use Rattle.cuts.specs.Finding.{Finds}
+use Rattle.cuts.specs.Members.{set_of}
+use Rattle.cuts.specs.declared.devices.Devices.{Devices}
+use Rattle.cuts.proofs.Membership.{held_past}
 use Rattle.marks.specs.Shedding.{inside, Shear, Turn, Marking, Singles, Numbered}
 use Rattle.marks.specs.State.{number, moved, State, Done}
-use Rattle.marks.proofs.Sheds.{shed_more, shed_marks, marks_all}
-use Rattle.marks.proofs.Numberings.{numbered_more, numbered_few}
+use Rattle.marks.proofs.Sheds.{shed_none, shed_more, shed_marks, marks_all}
+use Rattle.marks.proofs.Numberings.{numbered_none, numbered_more, numbered_few}
 
 pub zeros : (n d : ℕ) → number (replicate n 0) d ≡ 0
 zeros n d = ⊎_elim (λ lt. get_or-replicate n d 0 0 lt) (λ le. get_or_past (replicate n 0) d 0 (omega (arith, length-replicate {A = ℕ} n 0))) (cases_lt d n)
@@ -31,7 +33,7 @@ moved_off p q s r n = cond-false (eqb r p && s) q r (and_left (eqb r p) s (ne_eq
 
 module _ (cs : List Cable) (part floor mark : List ℕ) (p q f m : ℕ) (side : ℕ → Bool) (st : State cs part floor mark q) (sh : Shear cs (inside (number part) p) f m side) where
   -- p is one of the parts
-  part_low : p < q
+  pub part_low : p < q
   part_low =
       let r = inside_says (number part) p sh.split.left sh.split.left_in in
       omega (arith, st.parts.low sh.split.left r.0, r.1)
@@ -57,15 +59,23 @@ module _ (cs : List Cable) (part floor mark : List ℕ) (p q f m : ℕ) (side : 
       part' : ℕ → ℕ
       part' d = moved p q (side d) (number part d)
 
+pub state_none : (cs : List Cable) (part floor mark : List ℕ) → ((d : ℕ) → number part d ≡ 0) → number floor 0 ≡ 0 → State cs part floor mark 1
+state_none cs part floor mark one bare = record {
+  shed = shed_none cs (number part) (number floor) (λ d b. one d) bare;
+  marked = λ i c st apart. absurd (apart (one c.a ∙ sym (one c.b)));
+  parts = numbered_none (number part) (λ d b. one d);
+}
+
 pub state_more : (cs : List Cable) (part part' floor mark mark' : List ℕ) (p q m : ℕ) (side : ℕ → Bool) → length floor ≡ 128 → Lawful cs
     → State cs part floor mark q → Shear cs (inside (number part) p) (number floor p) m side
     → ((d : ℕ) → d < 128 → number part' d ≡ moved p q (side d) (number part d))
-    → Marking cs (number part) p m side (number mark) (number mark')
-    → State cs part' (set (set floor p m) q m) mark' (suc q)
+    → Marking cs (inside (number part) p) m side (number mark) (number mark')
+    → State cs part' (set (set floor p m) q m) mark' (q + 1)
 state_more cs part part' floor mark mark' p q m side long lawful st sh move marking = record {
   shed = shed_more cs (number part) (number floor) (number part') (number floor') p q m side st.shed sh turn;
   marked = shed_marks cs (number part) (number floor) (number part') (number floor') p q m side st.shed sh turn (number mark) (number mark') lawful st.marked marking;
-  parts = numbered_more (number part) (number floor) (number part') (number floor') p q m side st.parts sh.split turn;
+  parts = let more : suc q ≡ q + 1 = omega arith in
+      subst (Numbered (number part')) more (numbered_more (number part) (number floor) (number part') (number floor') p q m side st.parts sh.split turn);
 }
   where
     floor' : List ℕ
@@ -84,32 +94,25 @@ state_more cs part part' floor mark mark' p q m side long lawful st sh move mark
         (λ r np nq. get_or-set_other (set floor p m) q r m 0 nq ∙ get_or-set_other floor p r m 0 np)
 
 -- the devices of part p are that part as a set
-pub inside_is : (part : List ℕ) (p : ℕ) (all : List Bool) → length all ≡ 128 → ((d : ℕ) → d < 128 → get_or all d false ≡ eqb (number part d) p)
-    → (λ d. get_or all d false) ≡ inside (number part) p
-inside_is part p all long is = fun_ext (λ d. ⊎_elim
+pub inside_is : (part : List ℕ) (p : ℕ) (all : Devices) → ((d : ℕ) → d < 128 → set_of all d ≡ eqb (number part d) p) → set_of all ≡ inside (number part) p
+inside_is part p all is = fun_ext (λ d. ⊎_elim
     (λ lt. is d lt ∙ sym (ap (λ t. t && eqb (number part d) p) (lt-ltb d 128 lt)))
-    (λ le. get_or_past all d false (omega arith) ∙ sym (and_left (ltb d 128) (eqb (number part d) p) (le-ltb d 128 le)))
+    (λ le. held_past all d le ∙ sym (and_left (ltb d 128) (eqb (number part d) p) (le-ltb d 128 le)))
     (cases_lt d 128))
 
+-- what a finder finds of those devices, it finds of the part
+pub found_inside : (cs : List Cable) (part : List ℕ) (p f k : ℕ) (all : Devices) (side : ℕ → Bool) → ((d : ℕ) → d < 128 → set_of all d ≡ eqb (number part d) p)
+    → Finds cs (set_of all) f k side → Finds cs (inside (number part) p) f k side
+found_inside cs part p f k all side is r = subst (λ S. Finds cs S f k side) (inside_is part p all is) r
+
 -- what a finder finds serves to shed
-pub finds_shear : (cs : List Cable) (S : ℕ → Bool) (f k : ℕ) (side : ℕ → Bool) → Finds cs S f k side → Shear cs S f (max f k) side
-finds_shear cs S f k side r = ⊎_elim
-    (λ (lt : f < k). let e : max f k ≡ k = max_high f k lt in subst (λ m. Shear cs S f m side) (sym e)
-    (record { split = r.split; few = omega (arith, r.attained); above = omega arith; tied = λ h. r.least lt }))
-    (λ (le : k ≤ f). let e : max f k ≡ f = max_low f k le in subst (λ m. Shear cs S f m side) (sym e)
-    (record { split = r.split; few = omega (arith, r.attained); above = omega arith; tied = λ (h : f < f). absurd (omega arith) }))
-    (cases_lt f k)
-  where
-    max_high : (a b : ℕ) → a < b → max a b ≡ b
-    max_high a b h = omega arith
-
-    max_low : (a b : ℕ) → b ≤ a → max a b ≡ a
-    max_low a b h = omega arith
-
--- a cut of the devices of part p serves to shed it
-pub cut_shear : (cs : List Cable) (part : List ℕ) (p f k : ℕ) (all : List Bool) (side : ℕ → Bool) → length all ≡ 128 → ((d : ℕ) → d < 128 → get_or all d false ≡ eqb (number part d) p)
-    → Finds cs (λ d. get_or all d false) f k side → Shear cs (inside (number part) p) f (max f k) side
-cut_shear cs part p f k all side long is r = subst (λ S. Shear cs S f (max f k) side) (inside_is part p all long is) (finds_shear cs (λ d. get_or all d false) f k side r)
+pub finds_shear : (cs : List Cable) (S : ℕ → Bool) (f k m : ℕ) (side : ℕ → Bool) → m ≡ max f k → Finds cs S f k side → Shear cs S f m side
+finds_shear cs S f k m side is r = record {
+  split = r.split;
+  few = omega (arith, r.attained, is);
+  above = omega (arith, is);
+  tied = λ h. let e : k ≡ m = omega (arith, is) in subst (λ j. Tied cs S j) e (r.least (omega (arith, is)));
+}
 
 -- a part that is no set of two devices has one at most
 lone_none : (part : ℕ → ℕ) (p : ℕ) → (DeviceSet (inside part p) → ⊥) → Lone part p
@@ -124,16 +127,11 @@ lone_none part p none x y bx yb ex ey = ⊎_elim (λ e. e)
     })))
     (cases_eq x y)
 
-pub uncut_lone : (part : List ℕ) (p : ℕ) (all : List Bool) → length all ≡ 128 → ((d : ℕ) → d < 128 → get_or all d false ≡ eqb (number part d) p)
-    → (DeviceSet (λ d. get_or all d false) → ⊥) → Lone (number part) p
-uncut_lone part p all long is none = lone_none (number part) p (λ s. none (subst (λ S. DeviceSet S) (sym (inside_is part p all long is)) s))
+pub uncut_lone : (part : List ℕ) (p : ℕ) (all : Devices) → ((d : ℕ) → d < 128 → set_of all d ≡ eqb (number part d) p) → (DeviceSet (set_of all) → ⊥) → Lone (number part) p
+uncut_lone part p all is none = lone_none (number part) p (λ s. none (subst (λ S. DeviceSet S) (sym (inside_is part p all is)) s))
 
 pub done_more : (part : ℕ → ℕ) (p : ℕ) → Done part p → Lone part p → Done part (p + 1)
 done_more part p done lone r h = ⊎_elim (λ (lt : r < p). done r lt) (λ (le : p ≤ r). let e : p ≡ r = omega arith in subst (Lone part) e lone) (cases_lt r p)
-
-on_or_off : (b : Bool) → (b ≡ true) ⊎ (b ≡ false)
-on_or_off true = inl refl
-on_or_off false = inr refl
 
 -- a turn leaves the parts below p as they are
 pub done_turn : (part part' : ℕ → ℕ) (p q : ℕ) (side : ℕ → Bool) → p < q → ((d : ℕ) → d < 128 → part' d ≡ moved p q (side d) (part d)) → Done part p → Done part' p
@@ -145,7 +143,7 @@ done_turn part part' p q side low move done r h x y bx yb ex ey =
         (λ (at : part d ≡ p). ⊎_elim
         (λ (t : side d ≡ true). absurd (let z = move d b ∙ moved_to p q (side d) (part d) at t in omega arith))
         (λ (f : side d ≡ false). sym (moved_side p q (side d) (part d) f) ∙ sym (move d b) ∙ e)
-        (on_or_off (side d)))
+        (cases_Bool (side d)))
         (λ (off : part d ≡ p → ⊥). sym (moved_off p q (side d) (part d) off) ∙ sym (move d b) ∙ e)
         (cases_eq (part d) p)
 

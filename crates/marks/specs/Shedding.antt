@@ -6,10 +6,10 @@
 --   Shear cs S f m side             a side by which a part S with the floor f may be shed at m: no more than m cables cross it, and m is f or ties S
 --   Turn part floor p q f side ..   the devices of part p on the true side become part q, which was nowhere; p and q get the floor f
 --   MarkedApart cs part mark        each cable between two parts has its mark
---   Marking cs part p m side ..     each cable between the two sides of part p is marked m, and the others are left
+--   Marking cs S m side ..          each cable between the two sides of the set S is marked m, and the others are left
 --   Singles part                    every part is a single device
 --   Numbered part n                 the parts are 0 to n - 1, each of some device
-use Rattle.std.specs.Prelude.{◌≡◌, ℕ, ◌<◌, ◌≤◌, Bool, true, false, cond, List, Some, ◌≢◌, nat_eq}
+use Rattle.std.specs.Prelude.{◌≡◌, ℕ, ◌<◌, ◌≤◌, Bool, true, false, cond, List, Some, ◌≢◌}
 use Rattle.std.specs.List.{slice_get}
 use Rattle.network.specs.Sets.{DeviceSet, Split, WeakSplit, Tied, crosses, crossings}
 use Rattle.network.specs.Lists.{Mark}
@@ -48,8 +48,8 @@ pub record Turn (part floor : ℕ → ℕ) (p q f : ℕ) (side : ℕ → Bool) (
 abbrev pub MarkedApart : List Cable → (part mark : ℕ → ℕ) → Type 0
 MarkedApart cs part mark = (i : ℕ) (c : Cable) → slice_get cs i ≡ Some c → (part c.a ≢ part c.b) → Mark cs c (mark i)
 
-abbrev pub Marking : List Cable → (part : ℕ → ℕ) (p m : ℕ) (side : ℕ → Bool) (mark mark' : ℕ → ℕ) → Type 0
-Marking cs part p m side mark mark' = (i : ℕ) (c : Cable) → slice_get cs i ≡ Some c → mark' i ≡ cond (crosses (λ d. nat_eq (part d) p) side c) m (mark i)
+abbrev pub Marking : List Cable → (S : ℕ → Bool) (m : ℕ) (side : ℕ → Bool) (mark mark' : ℕ → ℕ) → Type 0
+Marking cs S m side mark mark' = (i : ℕ) (c : Cable) → slice_get cs i ≡ Some c → mark' i ≡ cond (crosses S side c) m (mark i)
 
 abbrev pub Singles : (part : ℕ → ℕ) → Type 0
 Singles part = (x y : ℕ) → x < 128 → y < 128 → part x ≡ part y → x ≡ y

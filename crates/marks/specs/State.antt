@@ -3,10 +3,12 @@
 --   moved p q side r        the part r, or q where r is p and the side is true
 --   State cs part floor mark n   floors, marks and numbers of the parts are right
 --   Done part p             each part below p has one device at most
+--   SplitUp cs s p          the parts s are right, and done below p
 use Rattle.std.specs.Prelude.{ℕ, ◌<◌, Bool, cond, ◌&&◌, List, ◌==◌, slice_index}
 use Rattle.network.specs.Sheets.{Lone}
 use Rattle.network.specs.declared.cable.Cable.{Cable}
 use Rattle.marks.specs.Shedding.{Shed, MarkedApart, Numbered}
+use Rattle.marks.specs.declared.parts.Parts.{Parts}
 
 abbrev pub number : List ℕ → ℕ → ℕ
 number xs d = slice_index xs d
@@ -21,3 +23,7 @@ pub record State (cs : List Cable) (part floor mark : List ℕ) (n : ℕ) : Type
 
 abbrev pub Done : (part : ℕ → ℕ) → ℕ → Type 0
 Done part p = (r : ℕ) → r < p → Lone part r
+
+pub record SplitUp (cs : List Cable) (s : Parts) (p : ℕ) : Type 0 where
+  pub state : State cs s.part s.floor s.marks s.count
+  pub done : Done (number s.part) p

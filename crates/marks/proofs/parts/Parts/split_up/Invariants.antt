@@ -1,0 +1,10 @@
+use Rattle.std.proofs.Common.{◌-◌}
+use Rattle.cuts.specs.Rigs.{rig_cables}
+use Rattle.marks.specs.State.{SplitUp}
+use Rattle.marks.proofs.parts.Parts.split_up.Given as goal
+
+abbrev pub invariant-loop-cut : goal.invariant-loop-cut
+invariant-loop-cut g l = SplitUp (rig_cables l.rig) l.self l.p
+
+abbrev pub decreases-loop-cut : goal.decreases-loop-cut
+decreases-loop-cut g l = 128 - l.self.count
