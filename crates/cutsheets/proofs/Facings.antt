@@ -1,7 +1,7 @@
 -- The other side of a cut parts what the cut parts, so the side that faces the list serves to shed as the cut does. Assumes nothing.
-use Rattle.std.proofs.Common.{◌≡◌, ℕ, ◌<◌, ◌≤◌, max, Bool, true, false, not, eqb, ◌⊎◌, List, sym, ap, ◌∙◌, inl, inr, ⊎_elim, arith}
+use Rattle.std.proofs.Common.{◌≡◌, ℕ, ◌<◌, ◌≤◌, max, Bool, not, eqb, ◌⊎◌, List, sym, ap, ◌∙◌, inl, inr, arith}
 use Rattle.std.proofs.Math.Bool.{not-not}
-use Rattle.std.proofs.lemmas.Bool.{and_parts, not_from_false, cases_Bool}
+use Rattle.std.proofs.lemmas.Bool.{and_parts}
 use Rattle.network.specs.Sets.{Split, crosses, crossings}
 use Rattle.network.specs.Sheets.{inside}
 use Rattle.network.specs.declared.cable.Cable.{Cable}
@@ -14,17 +14,10 @@ use Rattle.cuts.specs.declared.devices.Devices.{Devices}
 use Rattle.marks.specs.Shedding.{Shear}
 use Rattle.marks.specs.State.{number}
 use Rattle.marks.proofs.Turns.{found_inside, finds_shear}
-use Rattle.cutsheets.specs.Listing.{Meets, Facing}
+use Rattle.cutsheets.specs.Listing.{Facing}
 
 not_same : (x y : Bool) → not x ≡ not y → x ≡ y
 not_same x y e = sym (not-not x) ∙ ap not e ∙ not-not y
-
--- where no device of D is on a side, all are on the other
-pub facing_opposite : (D side r : ℕ → Bool) → ((d : ℕ) → D d ≡ true → d < 128) → (Meets D side → ⊥) → ((d : ℕ) → d < 128 → r d ≡ not (side d)) → Facing D side r
-facing_opposite D side r low none opposite = record { is = inr opposite; meets = λ x i. (x, i, opposite x (low x i) ∙ not_from_false (side x) (off x i)) }
-  where
-    off : (x : ℕ) → D x ≡ true → side x ≡ false
-    off x i = ⊎_elim (λ t. absurd (none (x, i, t))) (λ f. f) (cases_Bool (side x))
 
 module _ (cs : List Cable) (D side r : ℕ → Bool) (part : ℕ → ℕ) (p f m : ℕ) (face : Facing D side r) where
   -- two devices are apart by the one where they are by the other
