@@ -37,7 +37,12 @@ fn meets(devices: &Devices, side: &Devices) -> bool
 fn opposite(side: &Devices) -> Devices
     ensures { (d : ℕ) → d < 128 → set_of result d ≡ not (set_of side.now d) }
 {
-    Devices::from_flags(side.flags().map(|on| !on))
+    let mut others = [false; 128];
+    // Each flag is set by its device: an array's `map` takes thirty times as long.
+    for (d, on) in side.flags().iter().enumerate() {
+        others[d] = !*on;
+    }
+    Devices::from_flags(others)
 }
 
 // The side, or the other one where no listed device is on it.
