@@ -2,7 +2,8 @@
 use Rattle.std.proofs.Common.{◌≡◌, ℕ, zero, suc, ◌+◌, ◌<◌, ◌≤◌, Bool, true, false, cond, ◌||◌, eqb, ◌⊎◌, List, [], ◌∷◌, length, sym, refl, ap, ◌∙◌, inl, inr, arith}
 use Rattle.std.proofs.lemmas.Bool.{eq-eqb, eqb-true, cases_eq, cases_Bool, both_ways, or_cases, or_left, or_right}
 use Rattle.network.specs.declared.cable.Cable.{Cable}
-use Rattle.forest.specs.Labels.{label, relabel, Merged, Labelled}
+use Rattle.forest.specs.Labels.{relabel, Merged, Labelled}
+use Rattle.cuts.specs.Links.{label}
 use Rattle.forest.proofs.Merges.{relabel_old, relabel_other}
 
 -- of the numbers below n, how many pass the test

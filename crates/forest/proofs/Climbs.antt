@@ -9,7 +9,8 @@ use Rattle.network.proofs.Links.{linked_map}
 use Rattle.forest.specs.declared.crossing.Found.{Found}
 use Rattle.forest.specs.Order.{Laws}
 use Rattle.forest.specs.Places.{Laid, Reaching}
-use Rattle.forest.specs.Labels.{label, Merged, Labelled, OneLabel}
+use Rattle.forest.specs.Labels.{Merged, Labelled, OneLabel}
+use Rattle.cuts.specs.Links.{label}
 use Rattle.forest.specs.Crossings.{Seen}
 use Rattle.forest.specs.Forests.{Kept, KeptReaching, Spans}
 use Rattle.forest.specs.Poorest.{Poorest}

@@ -9,7 +9,8 @@ use Rattle.network.proofs.Places.{place, one_place, place_low}
 use Rattle.forest.specs.declared.crossing.Found.{Found}
 use Rattle.forest.specs.Order.{Laws}
 use Rattle.forest.specs.Places.{both_ends, ends_at}
-use Rattle.forest.specs.Labels.{label, Alike}
+use Rattle.forest.specs.Labels.{Alike}
+use Rattle.cuts.specs.Links.{label}
 use Rattle.forest.specs.Crossings.{Seen, Crosses, Best, reached_by, beyond}
 use Rattle.forest.proofs.Orders.{reach_self, reach_back}
 

@@ -9,7 +9,8 @@ use Rattle.network.proofs.Links.{linked_map}
 use Rattle.network.proofs.Places.{one_place, place_low}
 use Rattle.forest.specs.declared.crossing.Found.{Found}
 use Rattle.forest.specs.Order.{Laws}
-use Rattle.forest.specs.Labels.{label, Merged, Alike, Labelled}
+use Rattle.forest.specs.Labels.{Merged, Alike, Labelled}
+use Rattle.cuts.specs.Links.{label}
 use Rattle.forest.specs.Crossings.{Crosses, Best}
 use Rattle.forest.specs.Forests.{Before, Kept, KeptReaching, Spans}
 use Rattle.forest.proofs.Relinks.{relink}

@@ -4,7 +4,8 @@ use Rattle.std.proofs.lemmas.Bool.{eq-eqb, ne_eqb, cases_eq, cond-true, cond-fal
 use Rattle.network.specs.declared.cable.Cable.{Cable}
 use Rattle.network.specs.Chains.{Linked, stay}
 use Rattle.network.proofs.Links.{linked_join, linked_over, linked_back, linked_map}
-use Rattle.forest.specs.Labels.{label, relabel, Merged, Alike, Labelled}
+use Rattle.forest.specs.Labels.{relabel, Merged, Alike, Labelled}
+use Rattle.cuts.specs.Links.{label}
 use Rattle.forest.proofs.Relinks.{linked_keeps}
 
 pub relabel_old : (old new v : ℕ) → v ≡ old → relabel old new v ≡ new

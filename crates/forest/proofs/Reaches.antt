@@ -8,7 +8,8 @@ use Rattle.network.specs.Chains.{Linked, stay, hop}
 use Rattle.network.proofs.Places.{place_low}
 use Rattle.forest.specs.declared.crossing.Found.{Found}
 use Rattle.forest.specs.Places.{Reaching}
-use Rattle.forest.specs.Labels.{label, Merged, Labelled}
+use Rattle.forest.specs.Labels.{Merged, Labelled}
+use Rattle.cuts.specs.Links.{label}
 use Rattle.forest.specs.Crossings.{Seen}
 use Rattle.forest.specs.Forests.{ReachingUpTo}
 use Rattle.forest.proofs.Merges.{merged_ends, labelled_more, labelled_none, labelled_same, linked_label}

@@ -5,7 +5,8 @@ use Rattle.std.proofs.lemmas.List.{get_or_past}
 use Rattle.std.proofs.lemmas.Bool.{both_ways, cases_eq, cases_lt}
 use Rattle.network.specs.Sets.{DeviceSet}
 use Rattle.cuts.specs.declared.devices.Devices.{Devices}
-use Rattle.forest.specs.Labels.{label, OneLabel}
+use Rattle.forest.specs.Labels.{OneLabel}
+use Rattle.cuts.specs.Links.{label}
 use Rattle.cuts.specs.Members.{set_of}
 
 pub member_low : (s : Devices) (d : ℕ) → set_of s d ≡ true → d < 128

@@ -1,17 +1,14 @@
--- Labels of the 128 devices. Assumes nothing.
---   label ls d            the label of the device d
+-- Labels of the 128 devices; `label ls d` is the label of the device d. Assumes nothing.
 --   relabel old new v     a label after `old` became `new`
 --   Merged ls old new ls' so is each label of ls'
 --   Alike ls c            the ends of the cable have one label
 --   Labelled ls P         two devices have one label exactly when cables of the kind P link them
 --   OneLabel ls D         the devices of D have one label
 --   Tells b P             b is the answer to whether P holds
-use Rattle.std.specs.Prelude.{◌≡◌, ℕ, ◌<◌, Bool, true, false, cond, List, length, ◌==◌, slice_index}
+use Rattle.std.specs.Prelude.{◌≡◌, ℕ, ◌<◌, Bool, true, false, cond, List, length, ◌==◌}
 use Rattle.network.specs.declared.cable.Cable.{Cable}
 use Rattle.network.specs.Chains.{Linked}
-
-abbrev pub label : List ℕ → ℕ → ℕ
-label ls d = slice_index ls d
+use Rattle.cuts.specs.Links.{label}
 
 abbrev pub relabel : (old new : ℕ) → ℕ → ℕ
 relabel old new v = cond (v == old) new v

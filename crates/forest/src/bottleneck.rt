@@ -10,9 +10,10 @@ use crate::forest::Forest;
 use crate::grade::Grade;
 use crate::graded::Graded;
 use crate::growth::grow;
-use crate::labels::{merge, own_labels};
+use crate::labels::merge;
 use crate::several::{one_label, one_of_several};
 use cuts::devices::Devices;
+use cuts::labels::own_labels;
 
 /// Merges the forest best first, up to the cable that makes the devices one label.
 fn climb<E: Graded>(edges: &E, forest: &Forest, devices: &Devices, one: u8) -> Option<E::Grade>

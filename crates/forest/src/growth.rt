@@ -5,7 +5,8 @@ ghost use Rattle.forest.specs.Forests.{place_of, Spans, Longer};
 use crate::crossing::best_crossing;
 use crate::forest::Forest;
 use crate::graded::Graded;
-use crate::labels::{merge, own_labels};
+use crate::labels::merge;
+use cuts::labels::own_labels;
 
 impl Forest {
     /// A forest of no cables.

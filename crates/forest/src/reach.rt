@@ -3,14 +3,16 @@ ghost use Rattle.std.specs.Prelude.{◌≡◌, ℕ, ◌+◌, ◌<◌, true, fals
 ghost use Rattle.network.specs.Chains.{Linked};
 ghost use Rattle.cuts.specs.Members.{set_of};
 ghost use Rattle.forest.specs.Places.{Reaching};
-ghost use Rattle.forest.specs.Labels.{label, Labelled};
+ghost use Rattle.forest.specs.Labels.{Labelled};
+ghost use Rattle.cuts.specs.Links.{label};
 ghost use Rattle.forest.specs.Forests.{ReachingUpTo};
 
 use crate::crossing::found_at;
 use crate::grade::Grade;
 use crate::graded::Graded;
-use crate::labels::{merge, own_labels};
+use crate::labels::merge;
 use cuts::devices::Devices;
+use cuts::labels::{labelled, own_labels};
 
 /// Merges the ends of the cable at a place, if its grade reaches the floor.
 fn take_in<E: Graded>(edges: &E, floor: E::Grade, place: u16, labels: &mut [u8; 128])
@@ -33,17 +35,6 @@ fn labels_of<E: Graded>(edges: &E, floor: E::Grade) -> [u8; 128]
         take_in(edges, floor, place, &mut labels);
     }
     labels
-}
-
-/// The devices with this label.
-fn labelled(labels: &[u8; 128], with: u8) -> Devices
-    ensures { (d : ℕ) → d < 128 → set_of result d ≡ (label labels.now d == with) }
-{
-    let mut flags = [false; 128];
-    for d in 0..128usize {
-        flags[d] = labels[d] == with;
-    }
-    Devices::from_flags(flags)
 }
 
 /// The devices that cables whose grade reaches the floor link to `from`, itself too; none where `from` is no device.

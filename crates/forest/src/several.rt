@@ -2,7 +2,8 @@
 ghost use Rattle.std.specs.Prelude.{◌≡◌, ℕ, ◌<◌, true, false, MatchOption, ◌≢◌};
 ghost use Rattle.network.specs.Sets.{DeviceSet};
 ghost use Rattle.cuts.specs.Members.{set_of};
-ghost use Rattle.forest.specs.Labels.{label, OneLabel, Tells};
+ghost use Rattle.forest.specs.Labels.{OneLabel, Tells};
+ghost use Rattle.cuts.specs.Links.{label};
 
 use cuts::devices::Devices;
 

@@ -1,8 +1,11 @@
-use Rattle.std.proofs.Common.{arith}
+use Rattle.std.proofs.Common.{rules}
+use Rattle.cuts.proofs.Mapping.{mapped}
+use Rattle.cuts.specs.Links.{label}
+use Rattle.forest.specs.Labels.{relabel}
 use Rattle.forest.proofs.labels.merge.Goals as goal
 
 pub returns : goal.returns
 returns c = record {
-  size = c.loop-d.invariant.0;
-  each = λ k h. c.loop-d.invariant.1 k (omega arith);
+  size = c.map.ensures.items.long;
+  each = λ d low. let was = c.args.labels.now in mapped _ (relabel (label was c.args.a) (label was c.args.b)) _ (λ x y q k. search rules) _ _ 128 c.map.ensures.items d 0 0 low;
 }

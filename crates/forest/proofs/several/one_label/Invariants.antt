@@ -1,5 +1,5 @@
 use Rattle.std.proofs.Common.{◌≡◌, ℕ, ◌<◌, true}
-use Rattle.forest.specs.Labels.{label}
+use Rattle.cuts.specs.Links.{label}
 use Rattle.cuts.specs.Members.{set_of}
 use Rattle.forest.proofs.several.one_label.Given as goal
 
