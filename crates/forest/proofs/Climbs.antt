@@ -38,7 +38,7 @@ module _ {G : Type 0} {over : G → G → Bool} (laws : Laws over) (cs : List Ca
   pub climbed_all : n ≤ k → Poorest over cs grade D None
   climbed_all h = λ links. was.apart (λ x y ix iy. linked_map (λ c (i, st, (j, l, q)). (i, st, (j, omega arith, q))) ((spans.whole x y).1 (links x y ix iy)))
 
-  module _ (h : k < n) (f : Found G) (here : f.place ≡ place k) (s : Seen cs grade f) (ls' : List ℕ) (merged : Merged ls (label ls f.a) (label ls f.b) ls') where
+  module _ (h : k < n) (f : Found G) (here : f.place ≡ place k) (s : Seen cs grade f) (ls' : List ℕ) (merged : Merged ls (label ls f.ends.a) (label ls f.ends.b) ls') where
     here_only : (c : Cable) → Kept cs place (k + 1) c → Kept cs place k c ⊎ (c ≡ s.cable)
     here_only c (i, st, (j, l, q)) = ⊎_elim
         (λ lt. inl (i, st, (j, lt, q)))
@@ -52,7 +52,7 @@ module _ {G : Type 0} {over : G → G → Bool} (laws : Laws over) (cs : List Ca
         (λ c (i, st, (j, l, q)). (i, st, (j, omega arith, q)))
         (f.place, s.laid, (k, omega arith, sym here))
         here_only
-        (merged_ends ls ls' f.a f.b s.cable s.a_is s.b_is merged)
+        (merged_ends ls ls' f.ends.a f.ends.b s.cable s.a_is s.b_is merged)
 
     pub climbed_more : (OneLabel ls' D → ⊥) → Climbed cs place D (k + 1) ls'
     climbed_more apart = record {

@@ -1,5 +1,5 @@
 -- The cable at a place, and the best that crosses, place by place. Assumes nothing.
-use Rattle.std.proofs.Common.{◌≡◌, ℕ, ◌+◌, ◌<◌, ◌≤◌, Bool, true, false, ◌||◌, eqb, List, length, Some, None, Option, sym, ap, ◌∙◌, subst, ⊎_elim, arith}
+use Rattle.std.proofs.Common.{◌≡◌, ℕ, ◌+◌, ◌<◌, ◌≤◌, Bool, true, false, ◌||◌, eqb, List, length, Some, None, Option, sym, refl, ap, ◌∙◌, subst, ⊎_elim, arith}
 use Rattle.std.specs.List.{slice_get}
 use Rattle.std.proofs.lemmas.Option.{slice_get_past}
 use Rattle.std.proofs.lemmas.Bool.{cases_lt, false≢true, eqb-true, eqb-false, or_cases, or_parts}
@@ -15,10 +15,17 @@ use Rattle.forest.specs.Crossings.{Seen, Crosses, Best, reached_by, beyond}
 use Rattle.forest.proofs.Orders.{reach_self, reach_back}
 
 -- the ends of a lawful cable are devices
-pub seen_low : {G : Type 0} {cs : List Cable} {grade : ℕ → G} (f : Found G) → Lawful cs → Seen cs grade f → (f.a < 128) × (f.b < 128)
-seen_low f lawful s =
-    let l = lawful f.place s.cable s.laid in
-    (subst (λ x. x < 128) (sym s.a_is) l.0, subst (λ x. x < 128) (sym s.b_is) l.1)
+pub ends_low : (cs : List Cable) (i a b : ℕ) → Lawful cs → Some (a, b) ≡ ends_at cs i → (a < 128) × (b < 128)
+ends_low cs i a b lawful e = at_place (slice_get cs i) refl e
+  where
+    at_place : (o : Option Cable) → slice_get cs i ≡ o → Some (a, b) ≡ both_ends o → (a < 128) × (b < 128)
+    at_place None st e = let z : ◌≡◌ {A = ℕ} 0 1 = cc in absurd (omega arith)
+    at_place (Some c) st e =
+        let l = lawful i c st in
+        let same : (a, b) ≡ (c.a, c.b) = cc in
+        let a_is : a ≡ c.a = ap (λ (p : ℕ × ℕ). p.0) same in
+        let b_is : b ≡ c.b = ap (λ (p : ℕ × ℕ). p.1) same in
+        (rw a_is l.0, rw b_is l.1)
 
 -- where no ends are read, the place is past the last
 pub ends_past : (cs : List Cable) (i : ℕ) → None ≡ ends_at cs i → length cs ≤ i
@@ -58,7 +65,7 @@ module _ {G : Type 0} {over : G → G → Bool} (laws : Laws over) (cs : List Ca
     grade_here : f.grade ≡ grade n
     grade_here = s.grade_is ∙ ap grade here
 
-    seen_alike : label ls f.a ≡ label ls f.b → (c : Cable) → slice_get cs n ≡ Some c → Alike ls c
+    seen_alike : label ls f.ends.a ≡ label ls f.ends.b → (c : Cable) → slice_get cs n ≡ Some c → Alike ls c
     seen_alike same c st =
         subst (λ (x : Cable). Alike ls x) (sym (seen_is f s n c here st)) (ap (label ls) (sym s.a_is) ∙ same ∙ ap (label ls) s.b_is)
 
@@ -79,7 +86,7 @@ module _ {G : Type 0} {over : G → G → Bool} (laws : Laws over) (cs : List Ca
     reaches_before (Some d) off was i c lt st parted = laws.chain f.grade d.grade (grade i) (reach_back laws d.grade f.grade off) (was.best i c lt st parted)
 
     -- the cable at n crosses, and the best so far does not reach it: it is the best
-    best_takes : (label ls f.a ≡ label ls f.b → ⊥) → (best : Option (Found G)) → false ≡ reached_by over best f.grade → Best over cs grade ls n best → Crosses over cs grade ls (n + 1) f
+    best_takes : (label ls f.ends.a ≡ label ls f.ends.b → ⊥) → (best : Option (Found G)) → false ≡ reached_by over best f.grade → Best over cs grade ls n best → Crosses over cs grade ls (n + 1) f
     best_takes parts best off was = record {
       seen = s;
       before = omega arith;
@@ -89,16 +96,16 @@ module _ {G : Type 0} {over : G → G → Bool} (laws : Laws over) (cs : List Ca
 
     -- the test of the code: the labels are one, or the best so far reaches the cable at n
     module _ (best : Option (Found G)) (on : Bool) (on_is : on ≡ reached_by over best f.grade) (was : Best over cs grade ls n best) where
-      pub best_passes : (eqb (label ls f.a) (label ls f.b) || on) ≡ true → Best over cs grade ls (n + 1) best
+      pub best_passes : (eqb (label ls f.ends.a) (label ls f.ends.b) || on) ≡ true → Best over cs grade ls (n + 1) best
       best_passes t = ⊎_elim
-          (λ e. best_same (seen_alike (eqb-true (label ls f.a) (label ls f.b) e)) best was)
+          (λ e. best_same (seen_alike (eqb-true (label ls f.ends.a) (label ls f.ends.b) e)) best was)
           (λ e. best_stays best (sym e ∙ on_is) was)
-          (or_cases (eqb (label ls f.a) (label ls f.b)) on t)
+          (or_cases (eqb (label ls f.ends.a) (label ls f.ends.b)) on t)
 
-      pub best_improves : (eqb (label ls f.a) (label ls f.b) || on) ≡ false → Crosses over cs grade ls (n + 1) f
+      pub best_improves : (eqb (label ls f.ends.a) (label ls f.ends.b) || on) ≡ false → Crosses over cs grade ls (n + 1) f
       best_improves t =
-          let p = or_parts (eqb (label ls f.a) (label ls f.b)) on t in
-          best_takes (eqb-false (label ls f.a) (label ls f.b) p.0) best (sym p.1 ∙ on_is) was
+          let p = or_parts (eqb (label ls f.ends.a) (label ls f.ends.b)) on t in
+          best_takes (eqb-false (label ls f.ends.a) (label ls f.ends.b) p.0) best (sym p.1 ∙ on_is) was
 
 -- the place past the best so far is no further than the end
 pub beyond_low : {G : Type 0} (over : G → G → Bool) (cs : List Cable) (grade : ℕ → G) (ls : List ℕ) (best : Option (Found G)) → Best over cs grade ls (beyond best) best → beyond best ≤ length cs

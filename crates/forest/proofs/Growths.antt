@@ -68,7 +68,7 @@ module _ {G : Type 0} {over : G → G → Bool} (laws : Laws over) (cs : List Ca
       linked : (i : ℕ) (c : Cable) → slice_get cs i ≡ Some c → Linked (KeptReaching over cs grade place n (grade i)) c.a c.b
       linked i c st = was.inner i c st (none i c (place_low cs i c st) st)
 
-  module _ (f : Found G) (crosses : Crosses over cs grade ls (length cs) f) (ls' : List ℕ) (merged_at : Merged ls (label ls f.a) (label ls f.b) ls') where
+  module _ (f : Found G) (crosses : Crosses over cs grade ls (length cs) f) (ls' : List ℕ) (merged_at : Merged ls (label ls f.ends.a) (label ls f.ends.b) ls') where
     -- the cable that is kept
     abbrev e : Cable
     e = crosses.seen.cable
@@ -83,7 +83,7 @@ module _ {G : Type 0} {over : G → G → Bool} (laws : Laws over) (cs : List Ca
     eb = (lawful f.place e e_laid).1
 
     merged : Merged ls (label ls e.a) (label ls e.b) ls'
-    merged = merged_ends ls ls' f.a f.b e crosses.seen.a_is crosses.seen.b_is merged_at
+    merged = merged_ends ls ls' f.ends.a f.ends.b e crosses.seen.a_is crosses.seen.b_is merged_at
 
     fall : classes ls' < classes ls
     fall = classes_fall e.a e.b ea eb was.labelled crosses.parts merged

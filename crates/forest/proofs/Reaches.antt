@@ -47,13 +47,13 @@ module _ {G : Type 0} (over : G → G → Bool) (cs : List Cable) (grade : ℕ �
       taken_poor off = taken_same (λ c st r. both_ways (over f.grade floor) (sym off) (subst (λ g. over g floor ≡ true) (sym grade_here) r))
 
       -- the cable at n reaches the floor, and its ends are merged
-      pub taken_more : Lawful cs → true ≡ over f.grade floor → (ls' : List ℕ) → Merged ls (label ls f.a) (label ls f.b) ls' → Labelled ls' (ReachingUpTo over cs grade floor (n + 1))
+      pub taken_more : Lawful cs → true ≡ over f.grade floor → (ls' : List ℕ) → Merged ls (label ls f.ends.a) (label ls f.ends.b) ls' → Labelled ls' (ReachingUpTo over cs grade floor (n + 1))
       taken_more lawful on ls' merged =
           let l = lawful f.place s.cable s.laid in
           labelled_more s.cable l.0 l.1 was more
           (f.place, s.laid, (omega arith, subst (λ g. over g floor ≡ true) s.grade_is (sym on)))
           only
-          (merged_ends ls ls' f.a f.b s.cable s.a_is s.b_is merged)
+          (merged_ends ls ls' f.ends.a f.ends.b s.cable s.a_is s.b_is merged)
         where
           only : (c : Cable) → ReachingUpTo over cs grade floor (n + 1) c → ReachingUpTo over cs grade floor n c ⊎ (c ≡ s.cable)
           only c (i, st, (l, r)) = ⊎_elim

@@ -1,22 +1,16 @@
 -- Sets of two devices or more, and whether they have one label. Assumes nothing.
-use Rattle.std.proofs.Common.{◌≡◌, ℕ, ◌<◌, ◌≤◌, true, false, List, get_or, replicate, sym, ◌∙◌, ⊎_elim, arith}
-use lib.ListN.{get_or-replicate}
-use Rattle.std.proofs.lemmas.List.{get_or_past}
-use Rattle.std.proofs.lemmas.Bool.{both_ways, cases_eq, cases_lt}
+use Rattle.std.proofs.Common.{◌≡◌, ◌≢◌, ℕ, ◌<◌, Bool, true, false, List, Option, Some, None, MatchOption, sym, ◌∙◌, ⊎_elim}
+use Rattle.std.specs.Bool.{MatchBool, then_some}
+use Rattle.std.proofs.lemmas.Bool.{both_ways, cases_eq}
 use Rattle.network.specs.Sets.{DeviceSet}
 use Rattle.cuts.specs.declared.devices.Devices.{Devices}
-use Rattle.forest.specs.Labels.{OneLabel}
+use Rattle.forest.specs.Labels.{OneLabel, Tells}
 use Rattle.cuts.specs.Links.{label}
 use Rattle.cuts.specs.Members.{set_of}
-
-pub member_low : (s : Devices) (d : ℕ) → set_of s d ≡ true → d < 128
-member_low s d i = ⊎_elim
-    (λ lt. lt)
-    (λ le. absurd (both_ways (set_of s d) (get_or_past s.flags d false (omega (arith, s.size))) i))
-    (cases_lt d 128)
+use Rattle.cuts.proofs.Membership.{held_low}
 
 pub set_two : (s : Devices) (x y : ℕ) → set_of s x ≡ true → set_of s y ≡ true → (x ≡ y → ⊥) → DeviceSet (set_of s)
-set_two s x y ix iy apart = record { below = member_low s; one = x; other = y; one_in = ix; other_in = iy; apart = apart }
+set_two s x y ix iy apart = record { below = held_low s; one = x; other = y; one_in = ix; other_in = iy; apart = apart }
 
 pub set_none : (s : Devices) → ((d : ℕ) → d < 128 → set_of s d ≡ false) → DeviceSet (set_of s) → ⊥
 set_none s off set = both_ways (set_of s set.one) (off set.one (set.below set.one set.one_in)) set.one_in
@@ -31,12 +25,21 @@ set_lone s x lone set = ⊎_elim
     other : (d : ℕ) → set_of s d ≡ true → (d ≡ x → ⊥) → ⊥
     other d i n = lone (d, set.below d i, i, n)
 
--- none has another label than x
-pub one_label_all : (s : Devices) (ls : List ℕ) (x n : ℕ) → 128 ≤ n → ((d : ℕ) → d < n → (set_of s d ≡ true) × (label ls d ≡ label ls x → ⊥) → ⊥) → OneLabel ls (set_of s)
-one_label_all s ls x n h none y z iy iz = same y iy ∙ sym (same z iz)
-  where
-    same : (d : ℕ) → set_of s d ≡ true → label ls d ≡ label ls x
-    same d i = ⊎_elim (λ e. e) (λ off. absurd (none d (omega (arith, h, member_low s d i)) (i, off))) (cases_eq (label ls d) (label ls x))
+-- each has the label of x, one of them, or some has another
+pub one_label_all : (s : Devices) (ls : List ℕ) (x : ℕ) → set_of s x ≡ true → (r : Bool)
+    → MatchBool r ((d : ℕ) → d < 128 → set_of s d ≡ true → label ls d ≡ label ls x) ((d : ℕ) × (d < 128) × (set_of s d ≡ true) × (label ls d ≢ label ls x))
+    → Tells r (OneLabel ls (set_of s))
+one_label_all s ls x ix true same = λ y z iy iz. same y (held_low s y iy) iy ∙ sym (same z (held_low s z iz) iz)
+one_label_all s ls x ix false (d, low, i, off) = λ one. off (one d x i ix)
 
-pub none_held : (d : ℕ) → get_or (replicate 128 false) d false ≡ false
-none_held d = ⊎_elim (λ lt. get_or-replicate 128 d false false lt) (λ le. get_or_past (replicate 128 false) d false le) (cases_lt d 128)
+-- a member is of a set of two or more where the test Q, whether there is another, passes
+pub one_of_several : (s : Devices) (Q : ℕ → Bool → Type 0) → ((x : ℕ) (b : Bool) → Q x b → Tells b ((d : ℕ) × (d < 128) × (set_of s d ≡ true) × (d ≢ x)))
+    → (r : Option ℕ) → MatchOption r ((d : ℕ) → d < 128 → set_of s d ≡ false) (λ d. (d < 128) × (set_of s d ≡ true) × ((e : ℕ) → e < d → set_of s e ≡ false))
+    → (q : Option ℕ) → MatchOption r (q ≡ None) (λ x. (b : Bool) × Q x b × (q ≡ then_some b x))
+    → MatchOption q (DeviceSet (set_of s) → ⊥) (λ d. DeviceSet (set_of s) × (set_of s d ≡ true))
+one_of_several s Q told None none q is = rw is (set_none s none)
+one_of_several s Q told (Some x) (low, ix, least) q (b, k, is) = rw is (kept b (told x b k))
+  where
+    kept : (b : Bool) → Tells b ((d : ℕ) × (d < 128) × (set_of s d ≡ true) × (d ≢ x)) → MatchOption (then_some b x) (DeviceSet (set_of s) → ⊥) (λ d. DeviceSet (set_of s) × (set_of s d ≡ true))
+    kept true (d, dl, i, off) = (set_two s d x i ix off, ix)
+    kept false lone = set_lone s x lone

@@ -16,8 +16,8 @@ use Rattle.forest.specs.Labels.{Alike}
 pub record Seen {G : Type 0} (cs : List Cable) (grade : ℕ → G) (f : Found G) : Type 0 where
   pub cable : Cable
   pub laid : slice_get cs f.place ≡ Some cable
-  pub a_is : f.a ≡ cable.a
-  pub b_is : f.b ≡ cable.b
+  pub a_is : f.ends.a ≡ cable.a
+  pub b_is : f.ends.b ≡ cable.b
   pub grade_is : f.grade ≡ grade f.place
 
 abbrev pub FoundAt : {G : Type 0} → List Cable → (grade : ℕ → G) → ℕ → Option (Found G) → Type 0

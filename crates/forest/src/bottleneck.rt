@@ -27,7 +27,7 @@ fn climb<E: Graded>(edges: &E, forest: &Forest, devices: &Devices, one: u8) -> O
         let Some(found) = found_at(edges, forest.places[k as usize]) else {
             return None;
         };
-        merge(&mut labels, found.a, found.b);
+        merge(&mut labels, found.ends);
         if one_label(&labels, devices, one) {
             return Some(found.grade);
         }

@@ -2,6 +2,7 @@
 ghost use Rattle.std.specs.Prelude.{◌≡◌, ◌+◌, ◌≤◌, length};
 ghost use Rattle.forest.specs.Crossings.{FoundAt, Best, Improved, Next, reached_by, beyond};
 
+use crate::ends::Ends;
 use crate::grade::Grade;
 use crate::graded::Graded;
 
@@ -9,8 +10,7 @@ use crate::graded::Graded;
 #[derive(Clone, Copy)]
 pub(crate) struct Found<G> {
     pub(crate) place: u16,
-    pub(crate) a: u8,
-    pub(crate) b: u8,
+    pub(crate) ends: Ends,
     pub(crate) grade: G,
 }
 
@@ -20,17 +20,18 @@ pub(crate) fn found_at<E: Graded>(edges: &E, place: u16) -> Option<Found<E::Grad
 {
     let (a, b) = edges.ends(place)?;
     let grade = edges.grade_at(place)?;
-    Some(Found { place, a, b, grade })
+    Some(Found {
+        place,
+        ends: Ends { a, b },
+        grade,
+    })
 }
 
 /// Whether the grade of the best so far reaches this one.
 fn reached<G: Grade>(best: Option<Found<G>>, grade: G) -> bool
     ensures { result ≡ reached_by G.Grade.over best grade }
 {
-    match best {
-        Some(found) => found.grade.reaches(grade),
-        None => false,
-    }
+    best.is_some_and(|found| found.grade.reaches(grade))
 }
 
 /// The cable at a place, if it crosses and the best before it does not reach it.
@@ -45,7 +46,9 @@ fn improved_at<E: Graded>(
 {
     let found = found_at(edges, place)?;
     // One test that seldom passes costs less than two that are hard to foretell: `|`, not `||`.
-    if (labels[found.a as usize] == labels[found.b as usize]) | reached(best, found.grade) {
+    if (labels[found.ends.a as usize] == labels[found.ends.b as usize])
+        | reached(best, found.grade)
+    {
         return None;
     }
     Some(found)
@@ -56,10 +59,7 @@ fn past<G: Grade>(best: Option<Found<G>>) -> u16
     requires { beyond best ≤ 512 }
     ensures { result ≡ beyond best }
 {
-    match best {
-        Some(found) => found.place + 1,
-        None => 0,
-    }
+    best.map_or(0, |found| found.place + 1)
 }
 
 /// The first cable past the best so far that crosses and that the best does not reach.

@@ -54,7 +54,7 @@ pub fn grow<E: Graded>(edges: &E) -> Forest
     let mut forest = Forest::bare();
     let mut labels = own_labels();
     while let Some(best) = best_crossing(edges, &labels) {
-        merge(&mut labels, best.a, best.b);
+        merge(&mut labels, best.ends);
         forest.keep(best.place);
     }
     forest

@@ -9,6 +9,7 @@
 
 pub mod bottleneck;
 mod crossing;
+mod ends;
 pub mod forest;
 pub mod grade;
 pub mod graded;

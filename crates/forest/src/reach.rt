@@ -21,7 +21,7 @@ fn take_in<E: Graded>(edges: &E, floor: E::Grade, place: u16, labels: &mut [u8; 
 {
     if let Some(found) = found_at(edges, place) {
         if found.grade.reaches(floor) {
-            merge(labels, found.a, found.b);
+            merge(labels, found.ends);
         }
     }
 }

@@ -1,7 +1,6 @@
 use Rattle.std.proofs.Common.{arith}
 use Rattle.forest.specs.Forests.{place_of}
 use Rattle.cuts.specs.Members.{set_of}
-use Rattle.forest.proofs.Crossings.{seen_low}
 use Rattle.forest.proofs.Climbs.{climbed_none, climbed_more, climbed_found, climbed_all}
 use Rattle.forest.proofs.bottleneck.climb.Goals as goal
 
@@ -12,9 +11,6 @@ loop-k-init g c =
 
 pub returns-in_default : goal.returns-in_default
 returns-in_default g c = absurd (omega (arith, c.in_default.ensures, c.requires.spans.laid c.loop-k.k))
-
-pub merge-requires : goal.merge-requires
-merge-requires g c = seen_low c.in-Some.found (g.E.Graded.lawful c.args.edges.now) c.in-Some.ensures.1
 
 pub returns-then-one_label : goal.returns-then-one_label
 returns-then-one_label g c =

@@ -1,5 +1,5 @@
 use Rattle.std.proofs.Common.{◌+◌, ap}
-use Rattle.forest.proofs.Crossings.{seen_low, none_past, best_same, best_passes, best_improves}
+use Rattle.forest.proofs.Crossings.{none_past, best_same, best_passes, best_improves}
 use Rattle.forest.proofs.crossing.improved_at.Goals as goal
 
 pub returns-in_err-found : goal.returns-in_err-found
@@ -9,12 +9,6 @@ returns-in_err-found g c =
     rw c.from_residual.ensures (best_same g.met.E.Grade.Grade.order cs (g.E.Graded.grade s) c.args.labels.now c.args.place
     (λ d st. absurd (none_past cs c.args.place d c.in_err-found.ensures st))
     c.args.best c.requires)
-
-pub bounds-labels-found : goal.bounds-labels-found
-bounds-labels-found g c = (seen_low c.in_ok-found.found (g.E.Graded.lawful c.args.edges.now) c.in_ok-found.ensures.1).0
-
-pub bounds-labels-found-2 : goal.bounds-labels-found-2
-bounds-labels-found-2 g c = (seen_low c.in_ok-found.found (g.E.Graded.lawful c.args.edges.now) c.in_ok-found.ensures.1).1
 
 pub returns-then-labels-found : goal.returns-then-labels-found
 returns-then-labels-found g c =

@@ -1,6 +1,5 @@
 use Rattle.std.proofs.Common.{sym, subst, arith}
 use Rattle.forest.specs.Forests.{place_of}
-use Rattle.forest.proofs.Crossings.{seen_low}
 use Rattle.forest.proofs.Growths.{Grown, grown_none, grown_more, grown_room, grown_all}
 use Rattle.forest.proofs.growth.grow.Goals as goal
 
@@ -9,9 +8,6 @@ loop-best-init g c =
     let s = c.args.edges.now in
     grown_none g.E.Grade.Grade.over (g.E.Graded.cables s) (g.E.Graded.grade s) (place_of c.bare-forest.result) c.bare-forest.result.count c.own_labels-labels.result
     (g.E.Graded.lawful s) c.bare-forest.ensures c.own_labels-labels.ensures.size c.own_labels-labels.ensures.own
-
-pub merge-requires : goal.merge-requires
-merge-requires g c = seen_low c.in-Some.best (g.E.Graded.lawful c.args.edges.now) c.in-Some.ensures.seen
 
 pub keep-requires : goal.keep-requires
 keep-requires g c =

@@ -1,9 +1,5 @@
-use Rattle.forest.proofs.Crossings.{seen_low}
 use Rattle.forest.proofs.Reaches.{taken_past, taken_poor, taken_more}
 use Rattle.forest.proofs.reach.take_in.Goals as goal
-
-pub merge-requires : goal.merge-requires
-merge-requires g c = seen_low c.in-Some.found (g.E.Graded.lawful c.args.edges.now) c.in-Some.ensures.1
 
 pub returns-then-reaches : goal.returns-then-reaches
 returns-then-reaches g c =

@@ -1,0 +1,9 @@
+ghost use Rattle.std.specs.Prelude.{◌<◌};
+
+/// The two ends of a cable: devices.
+#[derive(Clone, Copy)]
+pub(crate) struct Ends {
+    pub(crate) a: u8,
+    pub(crate) b: u8,
+    ghost devices: { (a < 128) × (b < 128) },
+}
