@@ -32,8 +32,8 @@ climbed_none cs place D ls set size own = record {
     none : (c : Cable) → Kept cs place 0 c → ⊥
     none c p = omega (arith, p.2.1)
 
-module _ {G : Type 0} {over : G → G → Bool} (laws : Laws over) (cs : List Cable) (grade : ℕ → G) (lawful : Lawful cs) (place : ℕ → ℕ) (n : ℕ) (spans : Spans over cs grade place n)
-    (D : ℕ → Bool) (set : DeviceSet D) (k : ℕ) (ls : List ℕ) (was : Climbed cs place D k ls) where
+module _ {G : Type 0} {over : G → G → Bool} {cs : List Cable} {grade : ℕ → G} {place : ℕ → ℕ} {n : ℕ} {D : ℕ → Bool} {k : ℕ} {ls : List ℕ}
+    (laws : Laws over) (lawful : Lawful cs) (spans : Spans over cs grade place n) (set : DeviceSet D) (was : Climbed cs place D k ls) where
   -- all is merged, and D is still apart
   pub climbed_all : n ≤ k → Poorest over cs grade D None
   climbed_all h = λ links. was.apart (λ x y ix iy. linked_map (λ c (i, st, (j, l, q)). (i, st, (j, omega arith, q))) ((spans.whole x y).1 (links x y ix iy)))

@@ -23,10 +23,8 @@ fn climb<E: Graded>(edges: &E, forest: &Forest, devices: &Devices, one: u8) -> O
     ensures { Poorest E.Grade.Grade.over (E.Graded.cables edges.now) (E.Graded.grade edges.now) (set_of devices.now) result }
 {
     let mut labels = own_labels();
-    for k in 0..forest.count {
-        let Some(found) = found_at(edges, forest.places[k as usize]) else {
-            return None;
-        };
+    for place in forest.places() {
+        let found = found_at(edges, *place)?;
         merge(&mut labels, found.ends);
         if one_label(&labels, devices, one) {
             return Some(found.grade);

@@ -1,5 +1,5 @@
 // How a forest grows.
-ghost use Rattle.std.specs.Prelude.{◌≡◌, ◌<◌, ◌≤◌, MatchOption};
+ghost use Rattle.std.specs.Prelude.{◌≡◌, ℕ, ◌<◌, ◌≤◌, length, slice_index, MatchOption};
 ghost use Rattle.forest.specs.Forests.{place_of, Spans, Longer};
 
 use crate::crossing::best_crossing;
@@ -28,6 +28,14 @@ impl Forest {
         self.count += 1;
     }
 
+    /// The places that are kept.
+    pub(crate) fn places(&self) -> &[u16]
+        ensures len { length result.now ≡ self.now.count }
+        ensures each { (j : ℕ) → j < self.now.count → slice_index result.now j ≡ place_of self.now j }
+    {
+        &self.places[..self.count as usize]
+    }
+
     /// How many cables are kept.
     pub fn count(&self) -> u8
         ensures { result ≡ self.now.count }
@@ -39,11 +47,7 @@ impl Forest {
     pub fn place(&self, k: u8) -> Option<u16>
         ensures { MatchOption result (self.now.count ≤ k) (λ place. (k < self.now.count) × (place ≡ place_of self.now k)) }
     {
-        if k < self.count {
-            Some(self.places[k as usize])
-        } else {
-            None
-        }
+        self.places().get(k as usize).copied()
     }
 }
 

@@ -3,5 +3,5 @@ use Rattle.cuts.specs.Members.{set_of}
 use Rattle.forest.proofs.Climbs.{Climbed}
 use Rattle.forest.proofs.bottleneck.climb.Given as goal
 
-abbrev pub invariant-loop-k : goal.invariant-loop-k
-invariant-loop-k g l = Climbed (g.E.Graded.cables l.edges) (place_of l.forest) (set_of l.devices) l.k l.labels
+abbrev pub invariant-loop-place : goal.invariant-loop-place
+invariant-loop-place g l = Climbed (g.E.Graded.cables l.edges) (place_of l.forest) (set_of l.devices) l.place-index l.labels
