@@ -1,7 +1,7 @@
 // Labels of the 128 devices: those that are linked have the same.
 ghost use Rattle.std.specs.Prelude.{◌≡◌};
 ghost use Rattle.cuts.specs.Links.{label};
-ghost use Rattle.forest.specs.Labels.{relabel, Merged};
+ghost use Rattle.forest.specs.Labels.{Merged};
 
 use crate::ends::Ends;
 
@@ -11,9 +11,9 @@ pub(crate) fn merge(labels: &mut [u8; 128], ends: Ends)
 {
     let old = labels[ends.a as usize];
     let new = labels[ends.b as usize];
-    *labels = labels.map(
-        |label|
-            ensures { result ≡ relabel old new label }
-        { if label == old { new } else { label } },
-    );
+    for label in labels.iter_mut() {
+        if *label == old {
+            *label = new;
+        }
+    }
 }
