@@ -3,6 +3,7 @@ pub mod Orders
 pub mod Marks
 pub mod Merges
 pub mod Classes
+pub mod Searches
 pub mod Crossings
 pub mod Growths
 pub mod Climbs

@@ -5,7 +5,8 @@
 --   Best over cs grade ls n r     the best such cable before the place n; none where all have one label
 --   reached_by over best g        the grade of the best so far reaches g
 --   beyond best                   the place past the best so far
---   Improved over .. n best r     r is the best before the place n, and stands right before it; none where the best so far stays the best
+--   Passed over .. best i         no cable stands at the place i, or its ends have one label, or the best so far reaches it
+--   Improves over .. best i f     f is the cable at the place i, its ends have different labels, and the best so far does not reach it
 --   Next over .. best r           r is the first past the best so far that is better; none where it is the best of all
 use Rattle.std.specs.Prelude.{◌≡◌, ℕ, ◌+◌, ◌<◌, ◌≤◌, Bool, true, false, List, length, Some, None, Option}
 use Rattle.std.specs.List.{slice_get}
@@ -42,9 +43,14 @@ abbrev pub beyond : {G : Type 0} → Option (Found G) → ℕ
 beyond None = 0
 beyond (Some f) = f.place + 1
 
-abbrev pub Improved : {G : Type 0} → (over : G → G → Bool) → List Cable → (grade : ℕ → G) → List ℕ → ℕ → (best r : Option (Found G)) → Type 0
-Improved over cs grade ls n best None = Best over cs grade ls n best
-Improved over cs grade ls n best (Some f) = Crosses over cs grade ls n f × (f.place + 1 ≡ n)
+pub record Passed {G : Type 0} (over : G → G → Bool) (cs : List Cable) (grade : ℕ → G) (ls : List ℕ) (best : Option (Found G)) (i : ℕ) : Type 0 where
+  pub reached : (c : Cable) → slice_get cs i ≡ Some c → (Alike ls c → ⊥) → reached_by over best (grade i) ≡ true
+
+pub record Improves {G : Type 0} (over : G → G → Bool) (cs : List Cable) (grade : ℕ → G) (ls : List ℕ) (best : Option (Found G)) (i : ℕ) (f : Found G) : Type 0 where
+  pub here : f.place ≡ i
+  pub seen : Seen cs grade f
+  pub parts : Alike ls seen.cable → ⊥
+  pub better : reached_by over best f.grade ≡ false
 
 abbrev pub Next : {G : Type 0} → (over : G → G → Bool) → List Cable → (grade : ℕ → G) → List ℕ → (best r : Option (Found G)) → Type 0
 Next over cs grade ls best None = Best over cs grade ls (length cs) best

@@ -1,6 +1,6 @@
 // The best cable whose ends have different labels.
-ghost use Rattle.std.specs.Prelude.{◌≡◌, ◌+◌, ◌≤◌, length};
-ghost use Rattle.forest.specs.Crossings.{FoundAt, Best, Improved, Next, reached_by, beyond};
+ghost use Rattle.std.specs.Prelude.{◌≡◌, ◌≤◌, length, MatchOption};
+ghost use Rattle.forest.specs.Crossings.{FoundAt, Best, Passed, Improves, Next, reached_by, beyond};
 
 use crate::ends::Ends;
 use crate::grade::Grade;
@@ -41,8 +41,7 @@ fn improved_at<E: Graded>(
     best: Option<Found<E::Grade>>,
     place: u16,
 ) -> Option<Found<E::Grade>>
-    requires { Best E.Grade.Grade.over (E.Graded.cables edges.now) (E.Graded.grade edges.now) labels.now place best }
-    ensures { Improved E.Grade.Grade.over (E.Graded.cables edges.now) (E.Graded.grade edges.now) labels.now (place + 1) best result }
+    ensures { MatchOption result (Passed E.Grade.Grade.over (E.Graded.cables edges.now) (E.Graded.grade edges.now) labels.now best place) (Improves E.Grade.Grade.over (E.Graded.cables edges.now) (E.Graded.grade edges.now) labels.now best place) }
 {
     let found = found_at(edges, place)?;
     // One test that seldom passes costs less than two that are hard to foretell: `|`, not `||`.
@@ -71,12 +70,7 @@ fn improved<E: Graded>(
     requires { Best E.Grade.Grade.over (E.Graded.cables edges.now) (E.Graded.grade edges.now) labels.now (beyond best) best }
     ensures { Next E.Grade.Grade.over (E.Graded.cables edges.now) (E.Graded.grade edges.now) labels.now best result }
 {
-    for place in past(best)..edges.count() {
-        if let Some(found) = improved_at(edges, labels, best, place) {
-            return Some(found);
-        }
-    }
-    None
+    (past(best)..edges.count()).find_map(|place| improved_at(edges, labels, best, place))
 }
 
 /// The best cable whose ends have different labels; none where none crosses.

@@ -1,27 +1,13 @@
-use Rattle.std.proofs.Common.{◌+◌, ap}
-use Rattle.forest.proofs.Crossings.{none_past, best_same, best_passes, best_improves}
+use Rattle.forest.proofs.Crossings.{passed_end, passed, improves}
 use Rattle.forest.proofs.crossing.improved_at.Goals as goal
 
 pub returns-in_err-found : goal.returns-in_err-found
-returns-in_err-found g c =
-    let s = c.args.edges.now in
-    let cs = g.E.Graded.cables s in
-    rw c.from_residual.ensures (best_same g.met.E.Grade.Grade.order cs (g.E.Graded.grade s) c.args.labels.now c.args.place
-    (λ d st. absurd (none_past cs c.args.place d c.in_err-found.ensures st))
-    c.args.best c.requires)
+returns-in_err-found g c = rw c.from_residual.ensures (passed_end c.args.labels.now c.args.best c.args.place c.in_err-found.ensures)
 
 pub returns-then-labels-found : goal.returns-then-labels-found
 returns-then-labels-found g c =
-    let s = c.args.edges.now in
-    best_passes g.met.E.Grade.Grade.order (g.E.Graded.cables s) (g.E.Graded.grade s) c.args.labels.now c.args.place
-    c.in_ok-found.found c.in_ok-found.ensures.0 c.in_ok-found.ensures.1
-    c.args.best c.reached.result c.reached.ensures c.requires c.if-labels-found.true
+    passed c.args.labels.now c.args.best c.args.place c.in_ok-found.found c.in_ok-found.ensures.0 c.in_ok-found.ensures.1 c.reached.result c.reached.ensures c.if-labels-found.true
 
 pub returns : goal.returns
 returns g c =
-    let s = c.args.edges.now in (
-      best_improves g.met.E.Grade.Grade.order (g.E.Graded.cables s) (g.E.Graded.grade s) c.args.labels.now c.args.place
-          c.in_ok-found.found c.in_ok-found.ensures.0 c.in_ok-found.ensures.1
-          c.args.best c.reached.result c.reached.ensures c.requires c.if-labels-found.false,
-      ap (λ n. n + 1) c.in_ok-found.ensures.0,
-    )
+    improves c.args.labels.now c.args.best c.args.place c.in_ok-found.found c.in_ok-found.ensures.0 c.in_ok-found.ensures.1 c.reached.result c.reached.ensures c.if-labels-found.false
