@@ -34,11 +34,10 @@ impl Grade for Run {
     ghost order = { Prim.search rules };
 
     fn reaches(self, other: Run) -> bool {
-        match (self.medium, other.medium) {
-            (Medium::Fibre, Medium::Copper) => true,
-            (Medium::Copper, Medium::Fibre) => false,
-            (Medium::Fibre, Medium::Fibre) => self.length <= other.length,
-            (Medium::Copper, Medium::Copper) => self.length <= other.length,
+        if self.medium == other.medium {
+            self.length <= other.length
+        } else {
+            self.medium == Medium::Fibre
         }
     }
 }

@@ -13,6 +13,7 @@ use crate::graded::Graded;
 use crate::labels::merge;
 use cuts::devices::Devices;
 use cuts::labels::{labelled, own_labels};
+use network::out_of_range;
 
 /// Merges the ends of the cable at a place, if its grade reaches the floor.
 fn take_in<E: Graded>(edges: &E, floor: E::Grade, place: u16, labels: &mut [u8; 128])
@@ -41,7 +42,7 @@ fn labels_of<E: Graded>(edges: &E, floor: E::Grade) -> [u8; 128]
 pub fn joined<E: Graded>(edges: &E, floor: E::Grade, from: u8) -> Devices
     ensures { (d : ℕ) → d < 128 → (set_of result d ≡ true) ↔ Linked (Reaching E.Grade.Grade.over (E.Graded.cables edges.now) (E.Graded.grade edges.now) floor) from d }
 {
-    if from > 127 {
+    if out_of_range(from) {
         return Devices::none();
     }
     let labels = labels_of(edges, floor);
