@@ -1,6 +1,9 @@
 -- How many labels are in use: fewer after a merge, and never none. Assumes nothing.
-use Rattle.std.proofs.Common.{◌≡◌, ℕ, zero, suc, ◌+◌, ◌<◌, ◌≤◌, Bool, true, false, cond, ◌||◌, eqb, ◌⊎◌, List, [], ◌∷◌, length, sym, refl, ap, ◌∙◌, inl, inr, arith}
-use Rattle.std.proofs.lemmas.Bool.{eq-eqb, eqb-true, cases_eq, cases_Bool, both_ways, or_cases, or_left, or_right}
+use Rattle.std.proofs.Common.{◌≡◌, ℕ, zero, suc, ◌+◌, ◌<◌, ◌≤◌, Bool, true, false, cond, eqb, ◌⊎◌, List, [], ◌∷◌, length, sym, refl, ap, ◌∙◌, inl, inr, arith}
+use Rattle.std.specs.List.{list_any}
+use Rattle.std.proofs.lemmas.List.Folds.{list_any_at}
+use Rattle.std.proofs.lemmas.Bool.{eq-eqb, eqb-true, cases_eq, cases_Bool, both_ways, or_cases}
+use Rattle.network.proofs.Counts.{one_le}
 use Rattle.network.specs.declared.cable.Cable.{Cable}
 use Rattle.forest.specs.Labels.{relabel, Merged, Labelled}
 use Rattle.cuts.specs.Links.{label}
@@ -11,19 +14,12 @@ unfoldable pub passing : (ℕ → Bool) → ℕ → ℕ
 passing p zero = 0
 passing p (suc n) = cond (p n) 1 0 + passing p n
 
-unfoldable pub occurs : List ℕ → ℕ → Bool
-occurs [] v = false
-occurs (x ∷ xs) v = eqb x v || occurs xs v
+abbrev pub occurs : List ℕ → ℕ → Bool
+occurs ls v = list_any (λ x. eqb x v) ls
 
 -- the labels in use
 unfoldable pub classes : List ℕ → ℕ
 classes ls = passing (occurs ls) 128
-
-bit_le : (x y : Bool) → (x ≡ true → y ≡ true) → cond {A = ℕ} x 1 0 ≤ cond y 1 0
-bit_le true true h = omega arith
-bit_le true false h = absurd (both_ways false refl (h refl))
-bit_le false true h = omega arith
-bit_le false false h = omega arith
 
 bit_top : (x : Bool) → cond {A = ℕ} x 1 0 ≤ 1
 bit_top true = omega arith
@@ -32,7 +28,7 @@ bit_top false = omega arith
 passing_le : (p q : ℕ → Bool) (n : ℕ) → ((v : ℕ) → q v ≡ true → p v ≡ true) → passing q n ≤ passing p n
 unfolding passing
 passing_le p q zero h = omega arith
-passing_le p q (suc n) h = omega (arith, bit_le (q n) (p n) (h n), passing_le p q n h)
+passing_le p q (suc n) h = omega (arith, one_le (q n) (p n) (h n), passing_le p q n h)
 
 passing_max : (p : ℕ → Bool) (n : ℕ) → passing p n ≤ n
 unfolding passing
@@ -49,19 +45,15 @@ passing_less p q (suc n) o h l po qo = at_top (cases_eq o n) (λ o-in. passing_l
         let pn : p n ≡ true = ap p (sym e) ∙ po in
         let qn : q n ≡ false = ap q (sym e) ∙ qo in
         rw (pn, qn) (omega (arith, passing_le p q n h))
-    at_top (inr ne) below = let o-in : o < n = omega arith in omega (arith, bit_le (q n) (p n) (h n), below o-in)
+    at_top (inr ne) below = let o-in : o < n = omega arith in omega (arith, one_le (q n) (p n) (h n), below o-in)
 
 passing_some : (p : ℕ → Bool) (n o : ℕ) → o < n → p o ≡ true → 0 < passing p n
 passing_some p n o l po = omega (arith, passing_less p (λ v. false) n o (λ v e. absurd (both_ways false refl e)) l po refl)
 
 occurs_at : (ls : List ℕ) (d : ℕ) → d < length ls → occurs ls (label ls d) ≡ true
-unfolding occurs
-occurs_at [] d h = absurd (omega arith)
-occurs_at (x ∷ xs) zero h = or_left (eqb x x) (occurs xs x) (eq-eqb x x refl)
-occurs_at (x ∷ xs) (suc d) h = or_right (eqb x (label xs d)) (occurs xs (label xs d)) (occurs_at xs d (omega arith))
+occurs_at ls d h = list_any_at (λ x. eqb x (label ls d)) ls d 0 h (eq-eqb (label ls d) (label ls d) refl)
 
 occurs_where : (ls : List ℕ) (v : ℕ) → occurs ls v ≡ true → (d : ℕ) × (d < length ls) × (label ls d ≡ v)
-unfolding occurs
 occurs_where [] v h = absurd (both_ways false refl h)
 occurs_where (x ∷ xs) v h = found (or_cases (eqb x v) (occurs xs v) h) (occurs_where xs v)
   where

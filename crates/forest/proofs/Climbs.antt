@@ -23,8 +23,8 @@ pub record Climbed (cs : List Cable) (place : ℕ → ℕ) (D : ℕ → Bool) (k
   pub labelled : Labelled ls (Kept cs place k)
   pub apart : Join (Kept cs place k) D → ⊥
 
-pub climbed_none : (cs : List Cable) (place : ℕ → ℕ) (D : ℕ → Bool) (ls : List ℕ) → DeviceSet D → length ls ≡ 128 → ((d : ℕ) → d < 128 → label ls d ≡ d) → Climbed cs place D 0 ls
-climbed_none cs place D ls set size own = record {
+pub climbed_none : {cs : List Cable} {place : ℕ → ℕ} {D : ℕ → Bool} {ls : List ℕ} → DeviceSet D → length ls ≡ 128 → ((d : ℕ) → d < 128 → label ls d ≡ d) → Climbed cs place D 0 ls
+climbed_none {cs} {place} set size own = record {
   labelled = labelled_none size own none;
   apart = λ links. set.apart (linked_keeps (λ x. x) (λ c p. absurd (none c p)) (links set.one set.other set.one_in set.other_in));
 }

@@ -30,9 +30,9 @@ pub record Grown {G : Type 0} (over : G → G → Bool) (cs : List Cable) (grade
   pub fresh : (k : ℕ) (c : Cable) → k < n → slice_get cs (place k) ≡ Some c → Linked (Kept cs place k) c.a c.b → ⊥
   pub few : n + classes ls ≤ 128
 
-pub grown_none : {G : Type 0} (over : G → G → Bool) (cs : List Cable) (grade : ℕ → G) (place : ℕ → ℕ) (n : ℕ) (ls : List ℕ) → Lawful cs → n ≡ 0 → length ls ≡ 128 → ((d : ℕ) → d < 128 → label ls d ≡ d)
+pub grown_none : {G : Type 0} {over : G → G → Bool} {cs : List Cable} {grade : ℕ → G} {place : ℕ → ℕ} {n : ℕ} {ls : List ℕ} → Lawful cs → n ≡ 0 → length ls ≡ 128 → ((d : ℕ) → d < 128 → label ls d ≡ d)
     → Grown over cs grade place n ls
-grown_none over cs grade place n ls lawful zero size own = record {
+grown_none {cs = cs} {place = place} {n = n} {ls = ls} lawful zero size own = record {
   labelled = labelled;
   laid = λ j h. absurd (omega arith);
   inner = λ i c st same. let r = lawful i c st in linked_map (λ d p. absurd (none d p)) (labelled.whole c.a c.b r.0 r.1 same);
@@ -48,7 +48,8 @@ grown_none over cs grade place n ls lawful zero size own = record {
     labelled : Labelled ls (Kept cs place n)
     labelled = labelled_none size own none
 
-module _ {G : Type 0} {over : G → G → Bool} (laws : Laws over) (cs : List Cable) (grade : ℕ → G) (lawful : Lawful cs) (place : ℕ → ℕ) (n : ℕ) (ls : List ℕ) (was : Grown over cs grade place n ls) where
+module _ {G : Type 0} {over : G → G → Bool} {cs : List Cable} {grade : ℕ → G} {place : ℕ → ℕ} {n : ℕ} {ls : List ℕ}
+    (laws : Laws over) (lawful : Lawful cs) (was : Grown over cs grade place n ls) where
   -- no cable crosses: the forest spans
   pub grown_all : Best over cs grade ls (length cs) None → Spans over cs grade place n
   grown_all none = record {

@@ -1,13 +1,9 @@
 use Rattle.std.proofs.Common.{◌<◌, ◌∙◌, arith}
-use Rattle.forest.specs.Forests.{place_of}
-use Rattle.cuts.specs.Members.{set_of}
 use Rattle.forest.proofs.Climbs.{climbed_none, climbed_more, climbed_found, climbed_all}
 use Rattle.forest.proofs.bottleneck.climb.Goals as goal
 
 pub loop-place-init : goal.loop-place-init
-loop-place-init g c =
-    climbed_none (g.E.Graded.cables c.args.edges.now) (place_of c.args.forest.now) (set_of c.args.devices.now) c.own_labels-labels.result
-    c.requires.several c.own_labels-labels.ensures.size c.own_labels-labels.ensures.own
+loop-place-init g c = climbed_none c.requires.several c.own_labels-labels.ensures.size c.own_labels-labels.ensures.own
 
 pub returns-in_err-found : goal.returns-in_err-found
 returns-in_err-found g c =

@@ -4,16 +4,10 @@ use Rattle.forest.proofs.Growths.{Grown, grown_none, grown_more, grown_room, gro
 use Rattle.forest.proofs.growth.grow.Goals as goal
 
 pub loop-best-init : goal.loop-best-init
-loop-best-init g c =
-    let s = c.args.edges.now in
-    grown_none g.E.Grade.Grade.over (g.E.Graded.cables s) (g.E.Graded.grade s) (place_of c.bare-forest.result) c.bare-forest.result.count c.own_labels-labels.result
-    (g.E.Graded.lawful s) c.bare-forest.ensures c.own_labels-labels.ensures.size c.own_labels-labels.ensures.own
+loop-best-init g c = grown_none (g.E.Graded.lawful c.args.edges.now) c.bare-forest.ensures c.own_labels-labels.ensures.size c.own_labels-labels.ensures.own
 
 pub keep-requires : goal.keep-requires
-keep-requires g c =
-    let s = c.args.edges.now in
-    grown_room g.met.E.Grade.Grade.order (g.E.Graded.cables s) (g.E.Graded.grade s) (g.E.Graded.lawful s) (place_of c.loop-best.forest) c.loop-best.forest.count c.loop-best.labels c.loop-best.invariant
-    c.in-Some.best c.in-Some.ensures c.merge.new.labels c.merge.ensures
+keep-requires g c = grown_room g.met.E.Grade.Grade.order (g.E.Graded.lawful c.args.edges.now) c.loop-best.invariant _ c.in-Some.ensures _ c.merge.ensures
 
 pub loop-best-smaller : goal.loop-best-smaller
 loop-best-smaller g c = omega (arith, c.keep.ensures.longer, c.keep.new.self.few)
@@ -23,12 +17,7 @@ loop-best-preserved g c =
     let s = c.args.edges.now in
     let f = c.keep.new.self in
     subst (λ n. Grown g.E.Grade.Grade.over (g.E.Graded.cables s) (g.E.Graded.grade s) (place_of f) n c.merge.new.labels) (sym c.keep.ensures.longer)
-    (grown_more g.met.E.Grade.Grade.order (g.E.Graded.cables s) (g.E.Graded.grade s) (g.E.Graded.lawful s) (place_of c.loop-best.forest) c.loop-best.forest.count c.loop-best.labels c.loop-best.invariant
-    c.in-Some.best c.in-Some.ensures c.merge.new.labels c.merge.ensures
-    (place_of f) c.keep.ensures.last c.keep.ensures.others)
+    (grown_more g.met.E.Grade.Grade.order (g.E.Graded.lawful s) c.loop-best.invariant _ c.in-Some.ensures _ c.merge.ensures (place_of f) c.keep.ensures.last c.keep.ensures.others)
 
 pub returns : goal.returns
-returns g c =
-    let s = c.args.edges.now in
-    grown_all g.met.E.Grade.Grade.order (g.E.Graded.cables s) (g.E.Graded.grade s) (g.E.Graded.lawful s) (place_of c.loop-best.forest) c.loop-best.forest.count c.loop-best.labels c.loop-best.invariant
-    c.in_default.ensures
+returns g c = grown_all g.met.E.Grade.Grade.order (g.E.Graded.lawful c.args.edges.now) c.loop-best.invariant c.in_default.ensures
