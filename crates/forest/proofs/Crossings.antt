@@ -27,13 +27,6 @@ ends_low cs i a b lawful e = at_place (slice_get cs i) refl e
         let b_is : b ≡ c.b = ap (λ (p : ℕ × ℕ). p.1) same in
         (rw a_is l.0, rw b_is l.1)
 
--- where no ends are read, the place is past the last
-pub ends_past : (cs : List Cable) (i : ℕ) → None ≡ ends_at cs i → length cs ≤ i
-ends_past cs i e = ⊎_elim
-    (λ lt. let s = e ∙ ap both_ends (place cs i lt) in let z : ◌≡◌ {A = ℕ} 0 1 = cc in absurd (omega arith))
-    (λ le. le)
-    (cases_lt i (length cs))
-
 -- no cable stands past the last
 pub none_past : {X : Type 0} (xs : List X) (n : ℕ) (x : X) → length xs ≤ n → slice_get xs n ≡ Some x → ⊥
 none_past xs n x h st = let past = slice_get_past xs n h in let z : ◌≡◌ {A = ℕ} 0 1 = cc in omega arith
@@ -43,19 +36,8 @@ pub seen_is : {G : Type 0} {cs : List Cable} {grade : ℕ → G} (f : Found G) (
 seen_is {cs = cs} f s i c e st = one_place cs i c s.cable st (subst (λ k. slice_get cs k ≡ Some s.cable) e s.laid)
 
 module _ {G : Type 0} {over : G → G → Bool} {cs : List Cable} {grade : ℕ → G} (ls : List ℕ) (best : Option (Found G)) (n : ℕ) where
-  pub passed_end : length cs ≤ n → Passed over cs grade ls best n
-  passed_end h = record { reached = λ c st parted. absurd (none_past cs n c h st) }
-
   -- the test of the code: the labels are one, or the best so far reaches the cable at n
   module _ (f : Found G) (here : f.place ≡ n) (s : Seen cs grade f) (on : Bool) (on_is : on ≡ reached_by over best f.grade) where
-    pub passed : (eqb (label ls f.ends.a) (label ls f.ends.b) || on) ≡ true → Passed over cs grade ls best n
-    passed t = record {
-      reached = λ c st parted. ⊎_elim
-          (λ e. absurd (parted (subst (λ (x : Cable). Alike ls x) (sym (seen_is f s n c here st)) (ap (label ls) (sym s.a_is) ∙ eqb-true (label ls f.ends.a) (label ls f.ends.b) e ∙ ap (label ls) s.b_is))))
-          (λ e. ap (reached_by over best) (ap grade (sym here) ∙ sym s.grade_is) ∙ sym on_is ∙ e)
-          (or_cases (eqb (label ls f.ends.a) (label ls f.ends.b)) on t);
-    }
-
     pub improves : (eqb (label ls f.ends.a) (label ls f.ends.b) || on) ≡ false → Improves over cs grade ls best n f
     improves t =
         let p = or_parts (eqb (label ls f.ends.a) (label ls f.ends.b)) on t in

@@ -5,12 +5,6 @@ use Rattle.forest.proofs.bottleneck.climb.Goals as goal
 pub loop-place-init : goal.loop-place-init
 loop-place-init g c = climbed_none c.requires.several c.own_labels-labels.ensures.size c.own_labels-labels.ensures.own
 
-pub returns-in_err-found : goal.returns-in_err-found
-returns-in_err-found g c =
-    let k = c.loop-place.place-index in
-    let below : k < c.args.forest.now.count = omega (arith, c.places-place-items.ensures.len) in
-    absurd (omega (arith, c.in_err-found.ensures, c.places-place-items.ensures.each k below, c.requires.spans.laid k below))
-
 pub returns-then-one_label : goal.returns-then-one_label
 returns-then-one_label g c =
     let k = c.loop-place.place-index in

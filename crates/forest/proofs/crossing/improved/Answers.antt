@@ -1,13 +1,8 @@
-use Rattle.std.proofs.Common.{rules, arith}
+use Rattle.std.proofs.Common.{rules}
 use Rattle.forest.specs.Crossings.{Passed, Improves}
 use Rattle.forest.proofs.Searches.{first_in_range}
 use Rattle.forest.proofs.Crossings.{beyond_low, next_found}
 use Rattle.forest.proofs.crossing.improved.Goals as goal
-
-pub past-requires : goal.past-requires
-past-requires g c =
-    let s = c.args.edges.now in
-    omega (arith, beyond_low g.E.Grade.Grade.over (g.E.Graded.cables s) (g.E.Graded.grade s) c.args.labels.now c.args.best c.requires, g.E.Graded.few s)
 
 pub returns : goal.returns
 returns g c =

@@ -1,4 +1,4 @@
-use Rattle.std.proofs.Common.{sym, subst, arith}
+use Rattle.std.proofs.Common.{sym, subst}
 use Rattle.forest.specs.Forests.{place_of}
 use Rattle.forest.proofs.Growths.{Grown, grown_none, grown_more, grown_room, grown_all}
 use Rattle.forest.proofs.growth.grow.Goals as goal
@@ -8,9 +8,6 @@ loop-best-init g c = grown_none (g.E.Graded.lawful c.args.edges.now) c.bare-fore
 
 pub keep-requires : goal.keep-requires
 keep-requires g c = grown_room g.met.E.Grade.Grade.order (g.E.Graded.lawful c.args.edges.now) c.loop-best.invariant _ c.in-Some.ensures _ c.merge.ensures
-
-pub loop-best-smaller : goal.loop-best-smaller
-loop-best-smaller g c = omega (arith, c.keep.ensures.longer, c.keep.new.self.few)
 
 pub loop-best-preserved : goal.loop-best-preserved
 loop-best-preserved g c =
