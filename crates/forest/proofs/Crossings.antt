@@ -2,10 +2,10 @@
 use Rattle.std.proofs.Common.{◌≡◌, ℕ, ◌+◌, ◌<◌, ◌≤◌, Bool, true, false, ◌||◌, eqb, List, length, Some, None, Option, MatchOption, sym, refl, ap, ◌∙◌, subst, ⊎_elim, arith}
 use Rattle.std.specs.List.{slice_get}
 use Rattle.std.proofs.lemmas.Option.{slice_get_past}
-use Rattle.std.proofs.lemmas.Bool.{cases_eq, cases_lt, false≢true, eqb-true, eqb-false, or_cases, or_parts}
+use Rattle.std.proofs.lemmas.Bool.{cases_eq, cases_lt, false≢true, eqb-false, or_parts}
 use Rattle.network.specs.declared.cable.Cable.{Cable}
 use Rattle.network.specs.Cables.{Lawful}
-use Rattle.network.proofs.Places.{place, one_place, place_low}
+use Rattle.network.proofs.Places.{one_place, place_low}
 use Rattle.forest.specs.declared.crossing.Found.{Found}
 use Rattle.forest.specs.Order.{Laws}
 use Rattle.forest.specs.Places.{both_ends, ends_at}

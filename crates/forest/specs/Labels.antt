@@ -1,4 +1,4 @@
--- Labels of the 128 devices; `label ls d` is the label of the device d. Assumes nothing.
+-- Labels of the 128 devices: `label ls d` is the label of the device d. Assumes nothing.
 --   relabel old new v     a label after `old` became `new`
 --   Merged ls old new ls' so is each label of ls'
 --   Alike ls c            the ends of the cable have one label

@@ -32,6 +32,7 @@ fn labels_of<E: Graded>(edges: &E, floor: E::Grade) -> [u8; 128]
     ensures { Labelled result (Reaching E.Grade.Grade.over (E.Graded.cables edges.now) (E.Graded.grade edges.now) floor) }
 {
     let mut labels = own_labels();
+    // `Graded` tells its cables place by place and hands out no slice of them.
     for place in 0..edges.count() {
         take_in(edges, floor, place, &mut labels);
     }
