@@ -1,12 +1,8 @@
 -- What the lines say. Assumes nothing.
---   field n end        the number n in decimal, and the byte `end` behind it
 --   mark_text p m      the line of the place p and the marked cable m: the place, the two ends and the mark, and a newline
 --   refusal_text n p   the line of the refusal with the number n at the place p
-use Rattle.std.specs.Prelude.{ℕ, List, [], ◌∷◌, ◌++◌, codes, decimal}
+use Rattle.std.specs.Prelude.{ℕ, List, ◌++◌, codes, decimal}
 use Rattle.network.specs.declared.cable.MarkedCable.{MarkedCable}
-
-abbrev pub field : ℕ → ℕ → List ℕ
-field n end = decimal n ++ end ∷ []
 
 abbrev pub mark_text : ℕ → MarkedCable → List ℕ
 mark_text p m =

@@ -1,17 +1,19 @@
 // Lines of text, written into a caller's buffer.
 #![tactic(auto)]
 
-ghost use Rattle.std.specs.Prelude.{◌≡◌, ◌+◌, ◌<◌, ◌≤◌, [], ◌∷◌, ◌++◌, length, drop, if◌then◌else◌, Ok, decimal, nat_lt};
+ghost use Rattle.std.specs.Prelude.{◌≡◌, ◌+◌, ◌<◌, ◌≤◌, ◌++◌, length, drop, if◌then◌else◌, Ok, decimal, nat_lt};
+ghost use Rattle.arrayvec.specs.ArrayString.{array_string_len};
 ghost use Rattle.network.specs.Refusals.{refuse};
 ghost use Rattle.network.specs.declared.refusal.Refusal.TheVariants.{BufferTooShort};
-ghost use Rattle.lines.specs.Lines.{field, mark_text, refusal_text};
-ghost use Rattle.lines.specs.Writes.{Wrote};
+ghost use Rattle.lines.specs.Lines.{mark_text, refusal_text};
 
+use arrayvec::ArrayString;
+use itoa::Buffer;
 use network::cable::{Cable, MarkedCable};
 use network::refusal::Refusal;
 
 /// How many bytes a buffer for a line has at least. Every line is shorter.
-const ROOM: usize = 128;
+pub const ROOM: usize = 128;
 
 /// Writes the line of a place and a marked cable at the front of the buffer: the place, the two ends and the mark in
 /// decimal, one space between, and a newline. Answers how many bytes it wrote, and leaves those behind them.
@@ -20,14 +22,13 @@ pub fn mark_line(place: u16, marked: MarkedCable, buffer: &mut [u8]) -> Result<u
     ensures answer { result ≡ refuse BufferTooShort (nat_lt (length buffer.old) 128) (Ok (length (mark_text place marked))) }
     ensures after { buffer.new ≡ (if nat_lt (length buffer.old) 128 then buffer.old else mark_text place marked ++ drop (length (mark_text place marked)) buffer.old) }
 {
-    if buffer.len() < ROOM {
-        return Err(Refusal::BufferTooShort);
-    }
     let Cable { a, b, run: _ } = marked.cable;
-    let a_at = put_field(buffer, 0, place, b' ');
-    let b_at = put_field(buffer, a_at, a as u16, b' ');
-    let mark_at = put_field(buffer, b_at, b as u16, b' ');
-    Ok(put_field(buffer, mark_at, marked.mark, b'\n'))
+    let mut line = ArrayString::<ROOM>::new();
+    add_number(&mut line, place, " ");
+    add_number(&mut line, u16::from(a), " ");
+    add_number(&mut line, u16::from(b), " ");
+    add_number(&mut line, marked.mark, "\n");
+    put(&line, buffer)
 }
 
 /// Writes `refused N at P` and a newline at the front of the buffer, with the number of a refusal for N and a place for P.
@@ -37,53 +38,31 @@ pub fn refusal_line(number: u16, place: u16, buffer: &mut [u8]) -> Result<usize,
     ensures answer { result ≡ refuse BufferTooShort (nat_lt (length buffer.old) 128) (Ok (length (refusal_text number place))) }
     ensures after { buffer.new ≡ (if nat_lt (length buffer.old) 128 then buffer.old else refusal_text number place ++ drop (length (refusal_text number place)) buffer.old) }
 {
+    let mut line = ArrayString::<ROOM>::new();
+    line.push_str("refused ");
+    add_number(&mut line, number, " at ");
+    add_number(&mut line, place, "\n");
+    put(&line, buffer)
+}
+
+// Adds a number in decimal, at most five digits, and a text behind it.
+fn add_number(line: &mut ArrayString<ROOM>, n: u16, behind: &str)
+    requires { array_string_len line.old + 5 + length behind.now ≤ ROOM }
+    ensures bytes { line.new.bytes ≡ line.old.bytes ++ decimal n ++ behind.now }
+    ensures short { array_string_len line.new ≤ array_string_len line.old + 5 + length behind.now }
+{
+    line.push_str(Buffer::new().format(n));
+    line.push_str(behind);
+}
+
+// Writes a line at the front of a buffer, and answers how long it is.
+fn put(line: &ArrayString<ROOM>, buffer: &mut [u8]) -> Result<usize, Refusal>
+    ensures answer { result ≡ refuse BufferTooShort (nat_lt (length buffer.old) 128) (Ok (length line.now.bytes)) }
+    ensures after { buffer.new ≡ (if nat_lt (length buffer.old) 128 then buffer.old else line.now.bytes ++ drop (length line.now.bytes) buffer.old) }
+{
     if buffer.len() < ROOM {
         return Err(Refusal::BufferTooShort);
     }
-    let number_at = put_text(buffer, 0, b"refused ");
-    let word_at = put_field(buffer, number_at, number, b' ');
-    let place_at = put_text(buffer, word_at, b"at ");
-    Ok(put_field(buffer, place_at, place, b'\n'))
-}
-
-// Writes a number in decimal and one byte behind it. Answers the place behind the two, at most six bytes on.
-fn put_field(buffer: &mut [u8], at: usize, n: u16, end: u8) -> usize
-    requires { at + 6 ≤ length buffer.old }
-    ensures wrote { Wrote buffer.old buffer.new at result (field n end) }
-    ensures short { result ≤ at + 6 }
-{
-    let end_at = put_number(buffer, at, n);
-    put(buffer, end_at, end)
-}
-
-// Writes a number in decimal, and answers the place behind it.
-fn put_number(buffer: &mut [u8], at: usize, n: u16) -> usize
-    requires { at + length (decimal n) ≤ length buffer.old }
-    ensures { Wrote buffer.old buffer.new at result (decimal n) }
-{
-    if n < 10 {
-        return put(buffer, at, b'0' + n as u8);
-    }
-    let last_at = put_number(buffer, at, n / 10);
-    put(buffer, last_at, b'0' + (n % 10) as u8)
-}
-
-// Writes a text, and answers the place behind it.
-fn put_text(buffer: &mut [u8], at: usize, text: &[u8]) -> usize
-    requires { at + length text.now ≤ length buffer.old }
-    ensures { Wrote buffer.old buffer.new at result text.now }
-{
-    for (i, byte) in text.iter().enumerate() {
-        buffer[at + i] = *byte;
-    }
-    at + text.len()
-}
-
-// Writes one byte, and answers the place behind it.
-fn put(buffer: &mut [u8], at: usize, byte: u8) -> usize
-    requires { at < length buffer.old }
-    ensures { Wrote buffer.old buffer.new at result (byte ∷ []) }
-{
-    buffer[at] = byte;
-    at + 1
+    buffer[..line.len()].copy_from_slice(line.as_bytes());
+    Ok(line.len())
 }
