@@ -2,13 +2,13 @@
 // has one line: the number of its fault, and where it is.
 #![tactic(auto)]
 
-ghost use Rattle.std.specs.Prelude.{◌≤◌, length, IfOk};
+ghost use Rattle.std.specs.Prelude.{◌≡◌, ◌≤◌, length, IsOkAnd};
 
+use arrayvec::ArrayVec;
 use houses::house::House;
-use houses::misread::Misread;
 use houses::sheet::Sheet;
-use lines::{mark_line, refusal_line};
-use network::cable::MarkedCable;
+use lines::{ROOM, mark_line, refusal_line};
+use network::refusal::Refusal;
 use plan::plan::Open;
 use std::io;
 use std::io::{Read, Write};
@@ -16,55 +16,37 @@ use std::io::{Read, Write};
 /// How many bytes of a sheet are read. A longer sheet has its first fault among them.
 const MOST: usize = 2048;
 
-/// How many bytes a line has room for.
-const ROOM: usize = 128;
-
-// Reads until the buffer is full or the input ends, and answers how many bytes there are.
-fn fill(rt: &HostRuntime, buffer: &mut [u8]) -> io::Result<usize>
-    ensures { IfOk result (λ n. n ≤ length buffer.new) }
+// Writes the line that `lay` lays into a buffer.
+fn write_line<F: FnOnce(&mut [u8]) -> Result<usize, Refusal>>(
+    rt: &HostRuntime,
+    lay: F,
+) -> io::Result<()>
+    requires callable { F.IsAlwaysCallable lay }
+    requires within { (line r after : _) → length line.now ≡ 128 → F.post lay line r after → IsOkAnd r (λ n. n ≤ 128) }
 {
-    let mut input = rt.stdin();
-    let mut len: usize = 0;
-    while len < buffer.len() {
-        let more = input.read(&mut buffer[len..])?;
-        if more == 0 {
-            return Ok(len);
-        }
-        len += more;
-    }
-    Ok(len)
-}
-
-fn write_mark(rt: &HostRuntime, place: u16, marked: MarkedCable) -> io::Result<()> {
     let mut line = [0u8; ROOM];
-    let len = mark_line(place, marked, &mut line).unwrap();
+    let len = lay(&mut line).unwrap();
     rt.stdout().write_all(&line[..len])
 }
 
-fn write_refusal(rt: &HostRuntime, fault: Misread) -> io::Result<()> {
-    let mut line = [0u8; ROOM];
-    let len = refusal_line(fault.cause.number() as u16, fault.place, &mut line).unwrap();
-    rt.stdout().write_all(&line[..len])
-}
-
-// Writes the cables of a house in order, until a place has none.
+// Writes the cables of a house in order.
 fn write_marks<H: House + Drop>(rt: &HostRuntime, house: H) -> io::Result<()> {
     let plan = Open::begin(house).close();
-    for place in 0..=u16::MAX {
-        let Some(marked) = plan.mark(place) else {
-            break;
-        };
-        write_mark(rt, place, marked)?;
+    for place in 0..plan.count() {
+        let marked = plan.mark(place).unwrap();
+        write_line(rt, |line| mark_line(place, marked, line))?;
     }
     Ok(())
 }
 
 fn main(rt: HostRuntime) -> io::Result<()> {
-    let mut buffer = [0u8; MOST];
-    let len = fill(&rt, &mut buffer)?;
+    let mut bytes = ArrayVec::<u8, MOST>::new();
+    io::copy(&mut rt.stdin().take(MOST as u64), &mut bytes)?;
     let mut sheet = Sheet::empty();
-    match sheet.load(&buffer[..len]) {
+    match sheet.load(bytes.as_slice()) {
         Ok(_) => write_marks(&rt, sheet),
-        Err(fault) => write_refusal(&rt, fault),
+        Err(fault) => write_line(&rt, |line| {
+            refusal_line(u16::from(fault.cause.number()), fault.place, line)
+        }),
     }
 }
