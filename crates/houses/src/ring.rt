@@ -3,6 +3,7 @@ ghost use Rattle.network.specs.Cables.{reach};
 ghost use Rattle.houses.specs.Rings.{ring, ring_answer};
 ghost use Rattle.houses.specs.RingRules.{few_ring, lawful_ring};
 
+use crate::circle::counted_up;
 use crate::house::House;
 use network::cable::{Cable, Run};
 use network::out_of_range;
@@ -40,15 +41,6 @@ impl Ring {
     }
 }
 
-// The place after a place of a ring: after the last comes the first.
-fn next_place(place: u16, count: u8) -> u16
-    requires some { 3 ≤ count }
-    requires within { place < count }
-    ensures { result ≡ (place + 1) % count }
-{
-    (place + 1) % count as u16
-}
-
 impl House for Ring {
     ghost cables = { λ r. ring r.first r.count r.run };
 
@@ -61,13 +53,14 @@ impl House for Ring {
     }
 
     fn cable(&self, place: u16) -> Option<Cable> {
-        if place >= self.count as u16 {
+        if place >= u16::from(self.count) {
             return None;
         }
-        let next = next_place(place, self.count);
+        let place = place as u8;
+        let next = counted_up(place, 1, self.count);
         Some(Cable {
-            a: ((self.first as u16 + place) % 128) as u8,
-            b: ((self.first as u16 + next) % 128) as u8,
+            a: counted_up(self.first, place, 128),
+            b: counted_up(self.first, next, 128),
             run: self.run,
         })
     }

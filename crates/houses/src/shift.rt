@@ -1,7 +1,8 @@
-ghost use Rattle.std.specs.Prelude.{◌≡◌, ◌+◌, ◌%◌, map};
+ghost use Rattle.std.specs.Prelude.{◌≡◌, map};
 ghost use Rattle.houses.specs.Shifts.{shifted};
 ghost use Rattle.houses.specs.ShiftRules.{few_shifted, lawful_shifted};
 
+use crate::circle::counted_up;
 use crate::house::House;
 use network::cable::Cable;
 
@@ -22,12 +23,6 @@ impl<H: House> Shift<H> {
     }
 }
 
-fn moved(device: u8, by: u8) -> u8
-    ensures { result ≡ (device + by) % 128 }
-{
-    ((device as u16 + by as u16) % 128) as u8
-}
-
 impl<H: House> House for Shift<H> {
     ghost cables = { λ s. map (shifted s.by) (H.House.cables s.house) };
 
@@ -40,13 +35,10 @@ impl<H: House> House for Shift<H> {
     }
 
     fn cable(&self, place: u16) -> Option<Cable> {
-        match self.house.cable(place) {
-            Some(cable) => Some(Cable {
-                a: moved(cable.a, self.by),
-                b: moved(cable.b, self.by),
-                run: cable.run,
-            }),
-            None => None,
-        }
+        self.house.cable(place).map(|cable| Cable {
+            a: counted_up(cable.a, self.by, 128),
+            b: counted_up(cable.b, self.by, 128),
+            run: cable.run,
+        })
     }
 }
