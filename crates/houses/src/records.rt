@@ -33,16 +33,11 @@ pub enum Record {
 fn run_of(medium: u8, high: u8, low: u8) -> Option<Run>
     ensures { result ≡ run_of medium high low }
 {
-    let medium = match medium {
-        0 => Medium::Copper,
-        1 => Medium::Fibre,
-        _ => return None,
-    };
     let run = Run {
-        medium,
+        medium: Medium::try_from(medium).ok()?,
         length: u16::from_be_bytes([high, low]),
     };
-    if run.fits() { Some(run) } else { None }
+    run.fits().then_some(run)
 }
 
 fn read_one(a: u8, b: u8, run: Option<Run>) -> Result<Record, Refusal>
@@ -64,7 +59,7 @@ fn read_chain(first: u8, count: u8, run: Option<Run>) -> Result<Record, Refusal>
     if out_of_range(first) {
         return Err(Refusal::DeviceOutOfRange);
     }
-    if count < 1 || first as u16 + count as u16 > 127 {
+    if count < 1 || u16::from(first) + u16::from(count) > 127 {
         return Err(Refusal::BadChainOrStar);
     }
     let run = run.ok_or(Refusal::RunOutOfRange)?;
@@ -77,8 +72,8 @@ fn read_star(hub: u8, first: u8, count: u8, run: Option<Run>) -> Result<Record, 
     if out_of_range(hub) || out_of_range(first) {
         return Err(Refusal::DeviceOutOfRange);
     }
-    let end = first as u16 + count as u16;
-    if count < 1 || end > 128 || (first <= hub && (hub as u16) < end) {
+    let leaves = u16::from(first)..u16::from(first) + u16::from(count);
+    if count < 1 || leaves.end > 128 || leaves.contains(&u16::from(hub)) {
         return Err(Refusal::BadChainOrStar);
     }
     let run = run.ok_or(Refusal::RunOutOfRange)?;
@@ -111,8 +106,7 @@ pub(crate) fn next(bytes: &[u8]) -> Result<(Record, &[u8]), Refusal>
             ))
         }
         [1 | 2 | 3, ..] => Err(Refusal::BodyCutShort),
-        [_, ..] => Err(Refusal::UnknownKind),
-        [] => Err(Refusal::UnknownKind),
+        _ => Err(Refusal::UnknownKind),
     }
 }
 
@@ -123,8 +117,8 @@ impl Record {
     {
         match self {
             Record::One(_) => 1,
-            Record::Chain(chain) => chain.count as u16,
-            Record::Star(star) => star.count as u16,
+            Record::Chain(chain) => u16::from(chain.count),
+            Record::Star(star) => u16::from(star.count),
         }
     }
 

@@ -1,5 +1,5 @@
-use Rattle.std.proofs.Common.{◌≡◌, ℕ, suc, ◌-◌, List, length, get_or, take, drop, sym, ap, ◌∙◌, arith, rules, ltb-true}
-use Rattle.std.proofs.lemmas.List.{take_rest, get_or_past}
+use Rattle.std.proofs.Common.{◌≡◌, ℕ, suc, ◌-◌, List, length, get_or, take, drop, sym, ap, ◌∙◌, rules}
+use Rattle.std.proofs.lemmas.List.{take_rest}
 use Rattle.houses.specs.Records.{body}
 use Rattle.houses.proofs.records.next.Goals as goal
 
@@ -14,6 +14,3 @@ returns-in_ok-read_chain-in-2 c = let k : get_or c.args.bytes.now 0 0 ≡ 2 = se
 
 pub returns-in_ok-read_one-in-1 : goal.returns-in_ok-read_one-in-1
 returns-in_ok-read_one-in-1 c = let k : get_or c.args.bytes.now 0 0 ≡ 1 = search rules in (search rules, after c.args.bytes.now 1 k)
-
-pub returns-in-empty : goal.returns-in-empty
-returns-in-empty c = let e = get_or_past c.args.bytes.now 0 0 (omega (arith, ltb-true)) in rw e
