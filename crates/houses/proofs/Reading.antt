@@ -1,5 +1,5 @@
 -- Reading a sheet record by record: what the first record adds to the meaning of the bytes after it. Assumes nothing.
-use Rattle.std.proofs.Common.{◌≡◌, ℕ, zero, suc, ◌+◌, ◌-◌, ◌*◌, ◌<◌, ◌≤◌, Bool, true, false, cond, eqb, List, [], ◌∷◌, ◌++◌, length, get_or, drop, Some, Ok, Err, sym, refl, ap, ◌∙◌, ⊎_elim, arith, length-append, length-drop, le-ltb, lt-ltb}
+use Rattle.std.proofs.Common.{◌≡◌, ℕ, zero, suc, ◌+◌, ◌-◌, ◌*◌, ◌<◌, ◌≤◌, Bool, true, false, cond, eqb, List, [], ◌∷◌, ◌++◌, length, get_or, drop, Some, Ok, Err, Result, is_ok, sym, refl, ap, ◌∙◌, ⊎_elim, arith, length-append, length-drop, le-ltb, lt-ltb}
 use Rattle.std.proofs.lemmas.Bool.{cases_lt}
 use Rattle.std.proofs.lemmas.List.FromFn.{length-map-range_with_len}
 use Rattle.std.specs.List.{slice_get}
@@ -9,7 +9,8 @@ use Rattle.network.specs.declared.refusal.Refusal.TheVariants.{TooManyCables}
 use Rattle.network.proofs.ListPlaces.{nth_left, nth_right, nth_counted}
 use Rattle.houses.specs.Records.{front, body, span, link, spread}
 use Rattle.houses.specs.RecordRules.{front_sound}
-use Rattle.houses.specs.Sheets.{Meaning, before, read_record, read, meaning, counted}
+use Rattle.houses.specs.Walks.{Stepped}
+use Rattle.houses.specs.Sheets.{Meaning, before, read_record, read, meaning, counted, cables_of}
 use Rattle.houses.specs.declared.misread.Misread.{Misread}
 use Rattle.houses.specs.declared.records.Record.{Record}
 
@@ -82,6 +83,21 @@ surveyed_more bytes bs rest o n more r h p q m few inv =
       omega arith,
     )
 
+-- the same at a step over a record that can be read
+pub surveyed_step : (bytes left rest : List ℕ) (o n more place after : ℕ) (x : Result Record Refusal) (r : Record) → Stepped left o (Some (place, x)) rest after
+    → x ≡ Ok r → more ≡ span r → n + more ≤ 256 → Surveyed bytes o n left → Surveyed bytes after (n + more) rest
+surveyed_step bytes left rest o n more place after (Ok t) r s e m few inv =
+    let same : t ≡ r = cc in
+    let next = surveyed_more bytes left rest o n more r s.0 (s.2 ∙ e) s.3.0 m few inv in
+    rw s.3.1 next
+surveyed_step bytes left rest o n more place after (Err f) r s e m few inv = absurd (let z : ◌≡◌ {A = ℕ} 0 1 = cc in omega arith)
+
+-- a survey that meets a record that cannot be read
+pub surveyed_end : (bytes left rest : List ℕ) (o n place after : ℕ) (x : Result Record Refusal) (e : Refusal) → Stepped left o (Some (place, x)) rest after
+    → x ≡ Err e → Surveyed bytes o n left → Err (record { cause = e; place = place }) ≡ counted 0 (meaning bytes)
+surveyed_end bytes left rest o n place after x e s p inv =
+    rw s.1 (sym (inv.0 ∙ ap (counted n) (read_bad o n left e s.0 (s.2 ∙ p))))
+
 -- the cables of the first record, and those of what follows
 pub record First (o n : ℕ) (bs : List ℕ) (r : Record) (cs : List Cable) : Type 0 where
   pub later : List Cable
@@ -114,3 +130,37 @@ pub nth_later : (r : Record) (later : List Cable) (k : ℕ) → span r ≤ k →
 nth_later r later k high =
     let n = length-map-range_with_len (link r) 0 (span r) in
     nth_right (spread r) later k (omega arith) ∙ ap (λ i. slice_get later (k - i)) n
+
+-- the cable of a place is among those of the bytes left, after as many as are skipped
+abbrev pub Followed : List ℕ → ℕ → List ℕ → ℕ → Type 0
+Followed bytes place left skip =
+    (o : ℕ) × (n : ℕ) × (cs : List Cable) × (read o n 0 left ≡ Ok cs) × (slice_get (cables_of (meaning bytes)) place ≡ slice_get cs skip)
+
+module _ (bytes : List ℕ) (place : ℕ) (left : List ℕ) (skip : ℕ) where
+  pub followed_start : is_ok (meaning bytes) ≡ true → left ≡ bytes → Followed bytes place left place
+  followed_start sound same = rw same (go (meaning bytes) refl sound)
+    where
+      go : (m : Meaning) → meaning bytes ≡ m → is_ok m ≡ true → Followed bytes place bytes place
+      go (Ok cs) e t = (0, 0, cs, e, ap (λ m. slice_get (cables_of m) place) e)
+      go (Err f) e t = absurd (let z : ◌≡◌ {A = ℕ} 0 1 = cc in omega arith)
+
+  pub followed_fine : (x : Result Record Refusal) → 0 < length left → front left ≡ x → Followed bytes place left skip → (r : Record) × (x ≡ Ok r)
+  followed_fine (Ok r) h p inv = (r, refl)
+  followed_fine (Err e) h p inv = absurd (read_fine inv.0 inv.1 left inv.2 e h inv.3 p)
+
+  pub followed_here : (r : Record) → 0 < length left → front left ≡ Ok r → skip < span r → Followed bytes place left skip
+      → Some (link r skip) ≡ slice_get (cables_of (meaning bytes)) place
+  followed_here r h p low inv =
+      let f = read_first inv.0 inv.1 left r inv.2 h p inv.3 in
+      sym (inv.4 ∙ ap (λ cs. slice_get cs skip) f.joined ∙ nth_first r f.later skip low)
+
+  pub followed_on : (r : Record) (rest : List ℕ) → 0 < length left → front left ≡ Ok r → rest ≡ drop (past left) left → span r ≤ skip
+      → Followed bytes place left skip → Followed bytes place rest (skip - span r)
+  followed_on r rest h p q high inv =
+      let f = read_first inv.0 inv.1 left r inv.2 h p inv.3 in (
+        inv.0 + past left,
+        inv.1 + span r,
+        f.later,
+        ap (read (inv.0 + past left) (inv.1 + span r) 0) q ∙ f.follows,
+        inv.4 ∙ ap (λ cs. slice_get cs skip) f.joined ∙ nth_later r f.later skip high,
+      )

@@ -2,6 +2,7 @@ pub mod Records
 pub mod Rings
 pub mod RecordRules
 pub mod RingRules
+pub mod Walks
 pub mod Sheets
 pub mod SheetRules
 pub mod SheetLaws

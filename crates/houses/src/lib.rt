@@ -8,3 +8,4 @@ pub mod records;
 pub mod ring;
 pub mod sheet;
 pub mod shift;
+mod walk;

@@ -87,7 +87,7 @@ fn read_star(hub: u8, first: u8, count: u8, run: Option<Run>) -> Result<Record, 
 
 // The record that the bytes begin with, and the bytes after it.
 #[tactic(auto, using(std::proofs::lemmas::List::take_rest))]
-pub(crate) fn next(bytes: &[u8]) -> Result<(Record, &[u8]), Refusal>
+pub(crate) fn first_record(bytes: &[u8]) -> Result<(Record, &[u8]), Refusal>
     ensures { MatchResult result (λ p. (front bytes.now ≡ Ok p.0) × (p.1.now ≡ drop (suc (body (slice_index bytes.now 0))) bytes.now)) (λ e. front bytes.now ≡ Err e) }
 {
     match bytes {

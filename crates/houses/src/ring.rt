@@ -31,7 +31,7 @@ impl Ring {
         if out_of_range(first) {
             return Err(Refusal::DeviceOutOfRange);
         }
-        if count < 3 || count > 128 {
+        if !(3..=128).contains(&count) {
             return Err(Refusal::RingCount);
         }
         if !run.fits() {

@@ -5,7 +5,7 @@ ghost use Rattle.houses.specs.SheetLaws.{FirstFault};
 
 use crate::house::House;
 use crate::misread::Misread;
-use crate::records::next;
+use crate::walk::Walk;
 use network::cable::Cable;
 use network::refusal::Refusal;
 
@@ -20,15 +20,10 @@ pub struct Sheet<'a> {
 fn survey(bytes: &[u8]) -> Result<u16, Misread>
     ensures { result ≡ counted 0 (meaning bytes.now) }
 {
-    let mut left = bytes;
-    let mut place: u16 = 0;
     let mut count: u16 = 0;
-    while !left.is_empty() {
-        let (found, rest) = match next(left) {
-            Ok(pair) => pair,
-            Err(cause) => return Err(Misread { cause, place }),
-        };
-        let more = found.span();
+    for (place, record) in Walk::over(bytes) {
+        let place = place as u16;
+        let more = record.map_err(|cause| Misread { cause, place })?.span();
         if count + more > 256 {
             return Err(Misread {
                 cause: Refusal::TooManyCables,
@@ -36,8 +31,6 @@ fn survey(bytes: &[u8]) -> Result<u16, Misread>
             });
         }
         count += more;
-        place += (left.len() - rest.len()) as u16;
-        left = rest;
     }
     Ok(count)
 }
@@ -76,25 +69,18 @@ impl<'a> House for Sheet<'a> {
     ghost lawful = { λ s. lawful_read s.bytes.now };
 
     fn count(&self) -> u16 {
-        match survey(self.bytes) {
-            Ok(count) => count,
-            Err(_) => 0,
-        }
+        survey(self.bytes).unwrap_or(0)
     }
 
     fn cable(&self, place: u16) -> Option<Cable> {
-        let mut left = self.bytes;
         let mut skip = place;
-        while !left.is_empty() {
-            let Ok((found, rest)) = next(left) else {
-                return None;
-            };
-            let more = found.span();
+        for (_, record) in Walk::over(self.bytes) {
+            let record = record.ok()?;
+            let more = record.span();
             if skip < more {
-                return Some(found.cable(skip));
+                return Some(record.cable(skip));
             }
             skip -= more;
-            left = rest;
         }
         None
     }

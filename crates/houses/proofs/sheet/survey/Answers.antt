@@ -1,30 +1,31 @@
-use Rattle.std.proofs.Common.{◌≡◌, ◌<◌, length, Ok, sym, ap, ◌∙◌, arith, rules}
-use Rattle.std.proofs.lemmas.List.{nil_from_length}
-use Rattle.houses.specs.Sheets.{read, counted}
-use Rattle.houses.proofs.Reading.{read_bad, read_many, surveyed_more}
+use Rattle.std.proofs.Common.{◌≡◌, ℕ, Ok, Err, Result, MatchResult, sym, refl, ap, ◌∙◌, rules, arith}
+use Rattle.std.specs.Prelude.{IsErrAnd}
+use Rattle.houses.specs.declared.misread.Misread.{Misread}
+use Rattle.network.specs.declared.refusal.Refusal.{Refusal}
+use Rattle.houses.specs.declared.records.Record.{Record}
+use Rattle.houses.proofs.Reading.{surveyed_step, surveyed_end}
 use Rattle.houses.proofs.sheet.survey.Goals as goal
 
-pub returns-in-Err : goal.returns-in-Err
-returns-in-Err c =
-    let l = c.loop-left in
-    let h : 0 < length l.left.now = search rules in
-    sym (l.invariant.0 ∙ ap (counted l.count) (read_bad l.place l.count l.left.now c.in-Err.cause h c.in-Err.ensures))
+-- a fault that was given its place has the refusal of the record
+told : {P : Refusal → Misread → Type 0} (x : Result Record Refusal) (made : Result Record Misread) (out : Misread) (place : ℕ)
+    → ((e : Refusal) (f : Misread) → P e f → f ≡ record { cause = e; place = place })
+    → MatchResult x (λ r. made ≡ Ok r) (λ e. IsErrAnd made (λ f. P e f)) → made ≡ Err out
+    → (e : Refusal) × (x ≡ Err e) × (out ≡ record { cause = e; place = place })
+told (Ok r) made out place said h was = absurd (let z : ◌≡◌ {A = ℕ} 0 1 = cc in omega arith)
+told (Err e) (Ok r) out place said h was = absurd h
+told (Err e) (Err f) out place said h was = let same : f ≡ out = cc in (e, refl, sym same ∙ said e f h)
 
-pub returns-then-count-more-gt256 : goal.returns-then-count-more-gt256
-returns-then-count-more-gt256 c =
-    let l = c.loop-left in
-    let h : 0 < length l.left.now = search rules in
-    sym (l.invariant.0 ∙ ap (counted l.count) (read_many l.place l.count l.left.now c.in-Ok.pair.0 h c.in-Ok.ensures.0 (omega arith)))
+pub returns-in_err-map_err : goal.returns-in_err-map_err
+returns-in_err-map_err c =
+    let l = c.loop-place in
+    let out : ◌≡◌ {A = Result ℕ Misread} c.from_residual.result (Err c.in_err-map_err.field-0.0) = search rules in
+    let p = told c.in-Some.record c.map_err.result c.in_err-map_err.field-0.0 c.in-Some.place (λ e f k. search rules) c.map_err.ensures.cases c.in_err-map_err.was in
+    out ∙ ap Err p.2 ∙ surveyed_end c.args.bytes.now l.place-iterator.left.now c.next.new.self.left.now l.place-iterator.place l.count c.in-Some.place
+    c.next.new.self.place c.in-Some.record p.0 c.in-Some.ensures.steps p.1 l.invariant
 
-pub loop-left-preserved : goal.loop-left-preserved
-loop-left-preserved c =
-    let l = c.loop-left in
-    let h : 0 < length l.left.now = search rules in
-    surveyed_more c.args.bytes.now l.left.now c.in-Ok.pair.1.now l.place l.count c.span-more.result c.in-Ok.pair.0 h
-    c.in-Ok.ensures.0 c.in-Ok.ensures.1 c.span-more.ensures c.if-count-more-gt256.false l.invariant
-
-pub returns : goal.returns
-returns c =
-    let l = c.loop-left in
-    let n : length l.left.now ≡ 0 = search rules in
-    sym (l.invariant.0 ∙ ap (λ bs. counted l.count (read l.place l.count 0 bs)) (nil_from_length l.left.now n) ∙ ap Ok (omega arith))
+pub loop-place-preserved : goal.loop-place-preserved
+loop-place-preserved c =
+    let l = c.loop-place in
+    let same : ◌≡◌ {A = Result Record Refusal} c.in-Some.record (Ok c.in_ok-map_err.field-0) = search rules in
+    surveyed_step c.args.bytes.now l.place-iterator.left.now c.next.new.self.left.now l.place-iterator.place l.count c.span-more.result c.in-Some.place
+    c.next.new.self.place c.in-Some.record c.in_ok-map_err.field-0 c.in-Some.ensures.steps same c.span-more.ensures c.if-count-more-gt256.false l.invariant

@@ -1,44 +1,38 @@
-use Rattle.std.proofs.Common.{◌≡◌, ◌+◌, ◌-◌, ◌<◌, length, Some, sym, ap, ◌∙◌, arith, rules}
-use Rattle.std.proofs.lemmas.List.{nil_from_length}
-use Rattle.std.specs.List.{slice_get}
-use Rattle.houses.specs.Records.{span}
+use Rattle.std.proofs.Common.{◌≡◌, Ok, Result, ◌∙◌, ap, Some, arith, rules}
+use Rattle.network.specs.declared.refusal.Refusal.{Refusal}
 use Rattle.houses.specs.RecordRules.{front_sound}
-use Rattle.houses.specs.Sheets.{read, cables_of}
-use Rattle.houses.proofs.Reading.{past, read_first, read_fine, nth_first, nth_later}
+use Rattle.houses.specs.declared.records.Record.{Record}
+use Rattle.houses.proofs.Reading.{followed_start, followed_fine, followed_here, followed_on}
 use Rattle.houses.proofs.sheet.SheetHouse.cable.Goals as goal
 
-pub returns-in_default : goal.returns-in_default
-returns-in_default c =
-    let l = c.loop-left in
-    let h : 0 < length l.left.now = search rules in
-    absurd (read_fine l.invariant.0 l.invariant.1 l.left.now l.invariant.2 c.in_default.field-0 h l.invariant.3 c.in_default.ensures)
+pub loop-record-init : goal.loop-record-init
+loop-record-init c = followed_start c.args.self.now.bytes.now c.args.place c.into_iter-record-iterator.result.left.now c.args.place (search rules) (search rules)
 
-pub cable-requires : goal.cable-requires
-cable-requires c = record { within = omega arith; sound = (front_sound c.loop-left.left.now c.in-Ok.found c.in-Ok.ensures.0).0 }
+pub returns-in_err-record : goal.returns-in_err-record
+returns-in_err-record c =
+    let l = c.loop-record in
+    let s = c.in-Some.ensures.steps in
+    let fine = followed_fine c.args.self.now.bytes.now c.args.place l.record-iterator.left.now l.skip c.in-Some.record s.0 s.2 l.invariant in
+    let same = fine.1 in absurd (search rules)
+
+pub cable-requires-clause-sound : goal.cable-requires-clause-sound
+cable-requires-clause-sound c =
+    let same : ◌≡◌ {A = Result Record Refusal} c.in-Some.record (Ok c.in_ok-record.record) = search rules in
+    (front_sound c.loop-record.record-iterator.left.now c.in_ok-record.record (c.in-Some.ensures.steps.2 ∙ same)).0
 
 pub returns-then-skip-more : goal.returns-then-skip-more
 returns-then-skip-more c =
-    let l = c.loop-left in
-    let h : 0 < length l.left.now = search rules in
-    let f = read_first l.invariant.0 l.invariant.1 l.left.now c.in-Ok.found l.invariant.2 h c.in-Ok.ensures.0 l.invariant.3 in
-    ap Some c.cable.ensures ∙ sym (l.invariant.4 ∙ ap (λ cs. slice_get cs l.skip) f.joined ∙ nth_first c.in-Ok.found f.later l.skip (omega arith))
+    let l = c.loop-record in
+    let s = c.in-Some.ensures.steps in
+    let same : ◌≡◌ {A = Result Record Refusal} c.in-Some.record (Ok c.in_ok-record.record) = search rules in
+    ap Some c.cable.ensures
+    ∙ followed_here c.args.self.now.bytes.now c.args.place l.record-iterator.left.now l.skip c.in_ok-record.record s.0 (s.2 ∙ same) (omega arith) l.invariant
 
-pub loop-left-preserved : goal.loop-left-preserved
-loop-left-preserved c =
-    let l = c.loop-left in
-    let r = c.in-Ok.found in
-    let h : 0 < length l.left.now = search rules in
-    let f = read_first l.invariant.0 l.invariant.1 l.left.now r l.invariant.2 h c.in-Ok.ensures.0 l.invariant.3 in (
-      l.invariant.0 + past l.left.now,
-      l.invariant.1 + span r,
-      f.later,
-      ap (read (l.invariant.0 + past l.left.now) (l.invariant.1 + span r) 0) c.in-Ok.ensures.1 ∙ f.follows,
-      l.invariant.4 ∙ ap (λ cs. slice_get cs l.skip) f.joined ∙ nth_later r f.later l.skip (omega arith) ∙ ap (λ n. slice_get f.later (l.skip - n)) (sym c.span-more.ensures),
-    )
-
-pub returns : goal.returns
-returns c =
-    let l = c.loop-left in
-    let n : length l.left.now ≡ 0 = search rules in
-    let e = sym (ap (read l.invariant.0 l.invariant.1 0) (nil_from_length l.left.now n)) ∙ l.invariant.3 in
-    sym (l.invariant.4 ∙ ap (λ m. slice_get (cables_of m) l.skip) (sym e))
+pub loop-record-preserved : goal.loop-record-preserved
+loop-record-preserved c =
+    let l = c.loop-record in
+    let s = c.in-Some.ensures.steps in
+    let same : ◌≡◌ {A = Result Record Refusal} c.in-Some.record (Ok c.in_ok-record.record) = search rules in
+    let t = rw same at s.3 in
+    rw c.span-more.ensures (
+    followed_on c.args.self.now.bytes.now c.args.place l.record-iterator.left.now l.skip c.in_ok-record.record c.next.new.self.left.now s.0 (s.2 ∙ same) t.0 (omega arith) l.invariant)
