@@ -72,6 +72,7 @@ impl<'a> House for Sheet<'a> {
         survey(self.bytes).unwrap_or(0)
     }
 
+    #[tactic(auto, using(crate::proofs::Reading::followed_start, crate::proofs::Reading::followed_here, crate::specs::RecordRules::front_sound))]
     fn cable(&self, place: u16) -> Option<Cable> {
         let mut skip = place;
         for (_, record) in Walk::over(self.bytes) {

@@ -1,12 +1,8 @@
-use Rattle.std.proofs.Common.{◌≡◌, Ok, Result, ◌∙◌, ap, Some, arith, rules}
+use Rattle.std.proofs.Common.{◌≡◌, Ok, Result, ◌∙◌, arith, rules}
 use Rattle.network.specs.declared.refusal.Refusal.{Refusal}
-use Rattle.houses.specs.RecordRules.{front_sound}
 use Rattle.houses.specs.declared.records.Record.{Record}
-use Rattle.houses.proofs.Reading.{followed_start, followed_fine, followed_here, followed_on}
+use Rattle.houses.proofs.Reading.{followed_fine, followed_on}
 use Rattle.houses.proofs.sheet.SheetHouse.cable.Goals as goal
-
-pub loop-record-init : goal.loop-record-init
-loop-record-init c = followed_start c.args.self.now.bytes.now c.args.place c.into_iter-record-iterator.result.left.now c.args.place (search rules) (search rules)
 
 pub returns-in_err-record : goal.returns-in_err-record
 returns-in_err-record c =
@@ -14,19 +10,6 @@ returns-in_err-record c =
     let s = c.in-Some.ensures.steps in
     let fine = followed_fine c.args.self.now.bytes.now c.args.place l.record-iterator.left.now l.skip c.in-Some.record s.0 s.2 l.invariant in
     let same = fine.1 in absurd (search rules)
-
-pub cable-requires-clause-sound : goal.cable-requires-clause-sound
-cable-requires-clause-sound c =
-    let same : ◌≡◌ {A = Result Record Refusal} c.in-Some.record (Ok c.in_ok-record.record) = search rules in
-    (front_sound c.loop-record.record-iterator.left.now c.in_ok-record.record (c.in-Some.ensures.steps.2 ∙ same)).0
-
-pub returns-then-skip-more : goal.returns-then-skip-more
-returns-then-skip-more c =
-    let l = c.loop-record in
-    let s = c.in-Some.ensures.steps in
-    let same : ◌≡◌ {A = Result Record Refusal} c.in-Some.record (Ok c.in_ok-record.record) = search rules in
-    ap Some c.cable.ensures
-    ∙ followed_here c.args.self.now.bytes.now c.args.place l.record-iterator.left.now l.skip c.in_ok-record.record s.0 (s.2 ∙ same) (omega arith) l.invariant
 
 pub loop-record-preserved : goal.loop-record-preserved
 loop-record-preserved c =
