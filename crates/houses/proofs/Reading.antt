@@ -154,13 +154,13 @@ module _ (bytes : List ℕ) (place : ℕ) (left : List ℕ) (skip : ℕ) where
       let f = read_first inv.0 inv.1 left r inv.2 h p inv.3 in
       sym (inv.4 ∙ ap (λ cs. slice_get cs skip) f.joined ∙ nth_first r f.later skip low)
 
-  pub followed_on : (r : Record) (rest : List ℕ) → 0 < length left → front left ≡ Ok r → rest ≡ drop (past left) left → span r ≤ skip
-      → Followed bytes place left skip → Followed bytes place rest (skip - span r)
-  followed_on r rest h p q high inv =
+  pub followed_on : (r : Record) (rest : List ℕ) (more : ℕ) → 0 < length left → front left ≡ Ok r → rest ≡ drop (past left) left → more ≡ span r → more ≤ skip
+      → Followed bytes place left skip → Followed bytes place rest (skip - more)
+  followed_on r rest more h p q m high inv =
       let f = read_first inv.0 inv.1 left r inv.2 h p inv.3 in (
         inv.0 + past left,
         inv.1 + span r,
         f.later,
         ap (read (inv.0 + past left) (inv.1 + span r) 0) q ∙ f.follows,
-        inv.4 ∙ ap (λ cs. slice_get cs skip) f.joined ∙ nth_later r f.later skip high,
+        inv.4 ∙ ap (λ cs. slice_get cs skip) f.joined ∙ nth_later r f.later skip (omega arith) ∙ ap (λ n. slice_get f.later (skip - n)) (sym m),
       )

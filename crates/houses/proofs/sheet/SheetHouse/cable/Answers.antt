@@ -1,4 +1,4 @@
-use Rattle.std.proofs.Common.{◌≡◌, Ok, Result, ◌∙◌, arith, rules}
+use Rattle.std.proofs.Common.{◌≡◌, Ok, Result, ◌∙◌, rules}
 use Rattle.network.specs.declared.refusal.Refusal.{Refusal}
 use Rattle.houses.specs.declared.records.Record.{Record}
 use Rattle.houses.proofs.Reading.{followed_fine, followed_on}
@@ -17,5 +17,5 @@ loop-record-preserved c =
     let s = c.in-Some.ensures.steps in
     let same : ◌≡◌ {A = Result Record Refusal} c.in-Some.record (Ok c.in_ok-record.record) = search rules in
     let t = rw same at s.3 in
-    rw c.span-more.ensures (
-    followed_on c.args.self.now.bytes.now c.args.place l.record-iterator.left.now l.skip c.in_ok-record.record c.next.new.self.left.now s.0 (s.2 ∙ same) t.0 (omega arith) l.invariant)
+    followed_on c.args.self.now.bytes.now c.args.place l.record-iterator.left.now l.skip c.in_ok-record.record c.next.new.self.left.now c.span-more.result s.0
+    (s.2 ∙ same) t.0 c.span-more.ensures c.if-skip-more.false l.invariant
