@@ -40,6 +40,8 @@ fn run_of(medium: u8, high: u8, low: u8) -> Option<Run>
     run.fits().then_some(run)
 }
 
+// Each reader asks for the run itself, behind its own rules: its refusal is the last, and a maker passed to one function for
+// all three is no shorter.
 fn read_one(a: u8, b: u8, run: Option<Run>) -> Result<Record, Refusal>
     ensures { result ≡ one_record a b run }
 {

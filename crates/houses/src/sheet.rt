@@ -37,6 +37,7 @@ fn survey(bytes: &[u8]) -> Result<u16, Misread>
 
 /// A sheet of more than 2,048 bytes has a fault, and its first 2,048 bytes have the same: a record has at most seven bytes
 /// and at least one cable, so the 257th cable comes before.
+#[tactic(auto, using(crate::proofs::Prefixes::first_fault))]
 pub fn first_fault()
     ensures { FirstFault }
 {}
