@@ -10,7 +10,7 @@
 use Rattle.std.specs.Prelude.{ℕ, Bool, true, List, [], ◌∷◌, Some, None, Ok, vec_items, Option, Result, ◌==◌, slice_index}
 use Rattle.script.specs.declared.command.Command.{Command}
 use Rattle.script.specs.declared.command.Command.TheVariants as code
-use Rattle.script.specs.declared.command.Lay.{Lay}
+use Rattle.network.specs.declared.cable.TourCable.{TourCable}
 use Rattle.script.specs.declared.command.Yardstick.{Yardstick}
 use Rattle.script.specs.declared.mistake.Fault.TheVariants.{UnknownCommand}
 use Rattle.script.specs.declared.mistake.Mistake.{Mistake}
@@ -24,7 +24,7 @@ pub data Order : Type 0 where
   house : List ℕ → Order
   shift : ℕ → Order
   begin : Order
-  lay : Lay → Order
+  lay : TourCable → Order
   lift : ℕ → Order
   close : Order
   reopen : Order
@@ -66,7 +66,7 @@ order (Some verb.Shift) ws = given (byte_at ws 2) (λ s. ending ws 3 (shift s))
 order (Some verb.Begin) ws = ending ws 2 begin
 order (Some verb.Lay) ws =
     given (wide_at ws 2) (λ tag. given (byte_at ws 3) (λ a. given (byte_at ws 4) (λ b. given (read_at medium ws 5) (λ m. given (wide_at ws 6) (λ n.
-    ending ws 7 (lay (record { tag = tag; a = a; b = b; run = record { medium = m; length = n } })))))))
+    ending ws 7 (lay (record { tag = tag; cable = record { a = a; b = b; run = record { medium = m; length = n } } })))))))
 order (Some verb.Lift) ws = given (wide_at ws 2) (λ tag. ending ws 3 (lift tag))
 order (Some verb.Close) ws = ending ws 2 close
 order (Some verb.Reopen) ws = ending ws 2 reopen

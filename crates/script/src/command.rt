@@ -1,21 +1,12 @@
 // The commands of a script.
 use crate::mistake::Mistake;
-use network::cable::Run;
+use network::cable::TourCable;
 
 /// The yardstick of a run: plain, or by length.
 #[derive(Clone, Copy, PartialEq, Eq, Debug)]
 pub enum Yardstick {
     Plain,
     Length,
-}
-
-/// A cable to lay: its drum tag, its two ends and its run.
-#[derive(Clone, Copy, PartialEq, Eq, Debug)]
-pub struct Lay {
-    pub tag: u16,
-    pub a: u8,
-    pub b: u8,
-    pub run: Run,
 }
 
 /// A claim to judge: the strength, the cut sheet and the list of devices.
@@ -36,7 +27,7 @@ pub enum Command {
     /// `begin`
     Begin,
     /// `lay TAG A B copper LENGTH`, or with `fibre`
-    Lay(Lay),
+    Lay(TourCable),
     /// `lift TAG`
     Lift(u16),
     /// `close`

@@ -8,11 +8,11 @@ ghost use Rattle.script.specs.declared.verb.Verb.TheVariants as verb;
 use crate::argument::{
     byte_at, bytes_at, devices_from, end_at, medium_at, number_at, word_at, yardstick_at,
 };
-use crate::command::{Claim, Command, Lay};
+use crate::command::{Claim, Command};
 use crate::mistake::Fault;
 use crate::stop::{Stop, blame};
 use crate::verb::{Verb, verb_of};
-use network::cable::Run;
+use network::cable::{Cable, Run, TourCable};
 use std::alloc::Global;
 
 /// A command, unless a word is left over at a place.
@@ -46,7 +46,8 @@ fn lay(words: &[&str]) -> Result<Command, Stop>
     let medium = medium_at(words, 5)?;
     let length = number_at(words, 6, u16::MAX)?;
     let run = Run { medium, length };
-    ended(words, 7, Command::Lay(Lay { tag, a, b, run }))
+    let cable = Cable { a, b, run };
+    ended(words, 7, Command::Lay(TourCable { tag, cable }))
 }
 
 fn lift(words: &[&str]) -> Result<Command, Stop>
