@@ -8,7 +8,9 @@ use desk::stage::play;
 use desk::state::Plan;
 use houses::house::House;
 use plan::plan::Open;
-use script::command::{Command, Line};
+use script::command::Command;
+use script::stop::Stop;
+use std::alloc::AllocError;
 use std::io::{BufRead, BufReader};
 
 /// The script so far: how many lines were read, and the score.
@@ -46,14 +48,14 @@ fn command_of(
         println!(rt; "error in line {number}: it is not text")?;
         return Ok(None);
     };
-    match script::parse(rt.alloc(), text)? {
-        Line::Blank => Ok(None),
-        Line::Command(command) => Ok(Some(command)),
-        Line::Mistake(mistake) => {
+    match script::parse(rt.alloc(), text) {
+        Ok(command) => Ok(command),
+        Err(Stop::Mistake(mistake)) => {
             progress.score = progress.score.mistaken();
             println!(rt; "error in line {number}: {mistake}")?;
             Ok(None)
         }
+        Err(Stop::Memory) => Err(AllocError.into()),
     }
 }
 

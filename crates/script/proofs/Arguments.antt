@@ -1,17 +1,17 @@
 -- What is read of the words of a line, step by step. Assumes nothing.
-use Rattle.std.proofs.Common.{◌≡◌, ℕ, ◌+◌, ◌-◌, ◌<◌, ◌≤◌, leb, List, [], ◌∷◌, ◌++◌, map, length, get_or, drop, IsErrAnd, Ok, Err, Result, sym, refl, ap, ◌∙◌, subst, append_assoc, append-nil, arith, Bor}
-use Rattle.std.proofs.lemmas.List.{length-map, get_or-map, drop_more, drop_all}
-use Rattle.std.proofs.lemmas.Option.{slice_get-get_or, slice_get_past}
+use Rattle.std.proofs.Common.{◌≡◌, ℕ, Bool, true, false, cond, codes, Option, Some, None, Vec, vec_items, option_map, refl, List, MatchResult, OnOk, IsErrAnd, Ok, Err, Result, sym, ap, ◌∙◌, subst}
 use Rattle.std.proofs.lemmas.Result.{err_from_is_err_and}
-use Rattle.std.proofs.lemmas.Bool.{cond-true, cond-false, le-leb, lt-leb}
+use Rattle.std.specs.Option.{ok_or}
+use Rattle.std.specs.Str.{bytes_eq}
+use Rattle.std.proofs.lemmas.Option.{same_Some, none-some}
+use Rattle.std.proofs.lemmas.Bool.{cond-false}
 use Rattle.script.specs.declared.mistake.Fault.{Fault}
-use Rattle.script.specs.declared.mistake.Fault.TheVariants.{MissingWord, ExtraWord}
+use Rattle.script.specs.declared.mistake.Fault.TheVariants.{NotHexadecimal}
 use Rattle.script.specs.declared.mistake.Mistake.{Mistake}
 use Rattle.script.specs.declared.stop.Stop.{Stop}
 use Rattle.script.specs.declared.stop.Stop.TheVariants as stop
-use Rattle.script.specs.Numerals.{number}
-use Rattle.script.specs.Words.{text}
-use Rattle.script.specs.Arguments.{wrong, given, present, blamed, word_at, read_at, devices, devices_from, end_at, stop_at, Reads}
+use Rattle.script.specs.Numerals.{hexadecimal, bytes, hex}
+use Rattle.script.specs.Arguments.{wrong, given, blamed, word_at, read_at, stop_at, same, Reads}
 
 -- the code stops at the word n where the line is wrong there
 pub stops : {X Y : Type 0} (f : X → Y) (e : Stop) (n : ℕ) (fault : Fault) (s : Result Y Mistake) → e ≡ stop_at n fault → s ≡ wrong n fault → Reads f (Err e) s
@@ -31,61 +31,29 @@ stops_through f g e r s t by on h =
 pub given_ok : {A B : Type 0} (s : Result A Mistake) (then : A → Result B Mistake) (x : A) → s ≡ Ok x → given s then ≡ then x
 given_ok s then x is = ap (λ r. given r then) is
 
-module _ (ws : List (Bor (List ℕ))) (n : ℕ) where
-  pub word_past : length ws < n → word_at (map text ws) n ≡ wrong n MissingWord
-  word_past over = ap (present n) (slice_get_past (map text ws) (n - 1) (omega (arith, length-map ws text)))
+-- a word that was read gives what a reader says of it, or its fault
+pub read_word : {A : Type 0} (says : List ℕ → Result A Fault) (ws : List (List ℕ)) (n : ℕ) (w : List ℕ) (q : Result A Fault) (r : Result A Stop) → word_at ws n ≡ Ok w → q ≡ says w → MatchResult q (λ x. r ≡ Ok x) (λ fault. r ≡ Err (stop_at n fault)) → Reads same r (read_at says ws n)
+read_word says ws n w (Ok x) r at is so =
+    subst (λ t. Reads same t (read_at says ws n)) (sym so) (given_ok (word_at ws n) (λ v. blamed n (says v)) w at ∙ ap (blamed n) (sym is))
+read_word says ws n w (Err fault) r at is so =
+    subst (λ t. Reads same t (read_at says ws n)) (sym so) (given_ok (word_at ws n) (λ v. blamed n (says v)) w at ∙ ap (blamed n) (sym is))
 
-  pub word_there : (d : Bor (List ℕ)) → 0 < n → n ≤ length ws → word_at (map text ws) n ≡ Ok (text (get_or ws (n - 1) d))
-  word_there d some within =
-      ap (present n) (slice_get-get_or (map text ws) (n - 1) (text d) (omega (arith, length-map ws text))) ∙ ap Ok (get_or-map text ws (n - 1) d (text d) (omega arith))
+-- and likewise bytes in hexadecimal, at a word that is not `-`
+pub read_bytes : {Z : Type 0} (ws : List (List ℕ)) (n : ℕ) (w : List ℕ) (o : Option (Vec ℕ Z)) (r : Result (Vec ℕ Z) Stop) → word_at ws n ≡ Ok w → bytes_eq w (codes "-") ≡ false → option_map vec_items o ≡ cond (hexadecimal w) (Some (bytes w)) None → r ≡ ok_or o (stop_at n NotHexadecimal) → Reads vec_items r (read_at hex ws n)
+read_bytes {Z = Z} ws n w o r at some is so = by_test (hexadecimal w) refl o is so
+  where
+    spoken : (t : Bool) → hexadecimal w ≡ t → read_at hex ws n ≡ blamed n (cond t (Ok (bytes w)) (Err NotHexadecimal))
+    spoken t e =
+        given_ok (word_at ws n) (λ v. blamed n (hex v)) w at
+        ∙ ap (blamed n) (cond-false (bytes_eq w (codes "-")) _ _ some ∙ ap (λ b. cond b (Ok (bytes w)) (Err NotHexadecimal)) e)
 
-  pub end_past : n ≤ length ws → end_at (map text ws) n ≡ wrong n ExtraWord
-  end_past within =
-      let there : n ≤ length (map text ws) = omega (arith, length-map ws text) in
-      cond-true (leb n (length (map text ws))) _ _ (le-leb n (length (map text ws)) there)
+    by_test : (t : Bool) → hexadecimal w ≡ t → (o : Option (Vec ℕ Z)) → option_map vec_items o ≡ cond t (Some (bytes w)) None → r ≡ ok_or o (stop_at n NotHexadecimal) → Reads vec_items r (read_at hex ws n)
+    by_test true e (Some v) is so =
+        subst (λ t. Reads vec_items t (read_at hex ws n)) (sym so) (spoken true e ∙ ap Ok (sym (same_Some (vec_items v) (bytes w) is)))
+    by_test true e None is so = absurd (none-some (bytes w) is)
+    by_test false e (Some v) is so = absurd (none-some (vec_items v) (sym is))
+    by_test false e None is so = subst (λ t. Reads vec_items t (read_at hex ws n)) (sym so) (spoken false e)
 
-  pub end_there : length ws < n → end_at (map text ws) n ≡ Ok tt
-  end_there over =
-      let past : length (map text ws) < n = omega (arith, length-map ws text) in
-      cond-false (leb n (length (map text ws))) _ _ (lt-leb n (length (map text ws)) past)
-
--- the devices in front of those that s reads
-abbrev pub after : List ℕ → Result (List ℕ) Mistake → Result (List ℕ) Mistake
-after xs s = given s (λ ds. Ok (xs ++ ds))
-
-after_none : (s : Result (List ℕ) Mistake) → after [] s ≡ s
-after_none (Ok ds) = refl
-after_none (Err m) = refl
-
-after_one : (xs : List ℕ) (d : ℕ) (s : Result (List ℕ) Mistake) → after xs (given s (λ ds. Ok (d ∷ ds))) ≡ after (xs ++ (d ∷ [])) s
-after_one xs d (Ok ds) = ap Ok (sym (append_assoc xs (d ∷ []) ds))
-after_one xs d (Err m) = refl
-
--- the devices xs were read from the words before the word n
-abbrev pub ReadTo : List (List ℕ) → ℕ → ℕ → List ℕ → Type 0
-ReadTo ws place n xs = after xs (devices_from ws n) ≡ devices_from ws place
-
-pub none_read : (ws : List (List ℕ)) (n : ℕ) (xs : List ℕ) → xs ≡ [] → ReadTo ws n n xs
-none_read ws n xs none = ap (λ l. after l (devices_from ws n)) none ∙ after_none (devices_from ws n)
-
-module _ (ws : List (List ℕ)) (place n : ℕ) (xs : List ℕ) (h : ReadTo ws place n xs) where
-  pub all_read : length ws < n → devices_from ws place ≡ Ok xs
-  all_read over =
-      sym h ∙ ap (λ l. after xs (devices n l)) (drop_all (n - 1) ws (omega arith)) ∙ ap Ok (append-nil xs)
-
-  module _ (some : 0 < n) (within : n ≤ length ws) where
-    next_device : devices_from ws place ≡ after xs (given (read_at (number 255) ws n) (λ d. given (devices_from ws (n + 1)) (λ ds. Ok (d ∷ ds))))
-    next_device =
-        let back : n - 1 + 1 ≡ n + 1 - 1 = omega arith in
-        let there : word_at ws n ≡ Ok (get_or ws (n - 1) []) = ap (present n) (slice_get-get_or ws (n - 1) [] (omega arith)) in
-        sym h ∙ ap (λ l. after xs (devices n l)) (drop_more ws (n - 1) [] (omega arith))
-        ∙ ap (λ k. after xs (devices n (get_or ws (n - 1) [] ∷ drop k ws))) back
-        ∙ ap (λ s. after xs (given s (λ d. given (devices_from ws (n + 1)) (λ ds. Ok (d ∷ ds))))) (sym (ap (λ s. given s (λ w. blamed n (number 255 w))) there))
-
-    pub one_read : (d : ℕ) (xs' : List ℕ) → read_at (number 255) ws n ≡ Ok d → xs' ≡ xs ++ (d ∷ []) → ReadTo ws place (n + 1) xs'
-    one_read d xs' is more =
-        ap (λ l. after l (devices_from ws (n + 1))) more
-        ∙ sym (next_device ∙ ap (λ s. after xs (given s (λ d. given (devices_from ws (n + 1)) (λ ds. Ok (d ∷ ds))))) is ∙ after_one xs d (devices_from ws (n + 1)))
-
-    pub stop_read : (m : Mistake) → read_at (number 255) ws n ≡ Err m → devices_from ws place ≡ Err m
-    stop_read m is = next_device ∙ ap (λ s. after xs (given s (λ d. given (devices_from ws (n + 1)) (λ ds. Ok (d ∷ ds))))) is
+pub on_ok : {T E P : Type 0} (r : Result T E) → P → OnOk r P
+on_ok (Ok x) p = p
+on_ok (Err e) p = tt

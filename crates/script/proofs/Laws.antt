@@ -1,26 +1,48 @@
 -- The words of a line are its maximal runs, and these are one. Assumes nothing.
-use Rattle.std.proofs.Common.{◌≡◌, ℕ, suc, ◌<◌, eqb, List, [], ◌∷◌, ◌++◌, length, get_or, sym, refl, ap, ◌∙◌, subst, ⊎_elim, append-nil, arith}
-use Rattle.std.proofs.lemmas.Bool.{eq-eqb, cond-true, cases_eq}
-use Rattle.script.specs.Words.{begun, pieces, filled, words}
+use Rattle.std.proofs.Common.{◌≡◌, ℕ, suc, ◌<◌, cond, eqb, filter, not, List, [], ◌∷◌, ◌++◌, length, get_or, sym, refl, ap, ◌∙◌, subst, ⊎_elim, append-nil, arith}
+use Rattle.std.proofs.lemmas.Bool.{eq-eqb, ne_eqb, cond-true, cond-false, cases_eq}
+use Rattle.std.specs.List.{slice_split, onto_first}
+use Rattle.std.specs.Str.Iter.{LacksByte}
+use Rattle.script.specs.Words.{space, filled, words}
 use Rattle.script.specs.Laws.{Spaces, Word, Opens, Runs, over, next, WordsAreRuns, OneCut}
-use Rattle.script.proofs.Words.{pieces_whole, pieces_cut}
+
+-- what stands before, between and after the spaces
+abbrev pieces : List ℕ → List (List ℕ)
+pieces bs = slice_split space bs
+
+lacks_tail : (b : ℕ) (w : List ℕ) → LacksByte 32 (b ∷ w) → LacksByte 32 w
+lacks_tail b w no_space i lt e = no_space (suc i) (omega arith) e
+
+head_stays : (b : ℕ) (w : List ℕ) → LacksByte 32 (b ∷ w) → (xs ys : List (List ℕ)) → cond (eqb b 32) xs ys ≡ ys
+head_stays b w no_space xs ys = cond-false (eqb b 32) xs ys (ne_eqb b 32 (λ e. no_space 0 (omega arith) e))
+
+-- bytes with no space are one piece
+pieces_whole : (w : List ℕ) → LacksByte 32 w → pieces w ≡ w ∷ []
+pieces_whole [] no_space = refl
+pieces_whole (b ∷ w) no_space =
+    head_stays b w no_space _ _ ∙ ap (onto_first b) (pieces_whole w (lacks_tail b w no_space))
+
+-- and a piece of their own before a space
+pieces_cut : (w rest : List ℕ) → LacksByte 32 w → pieces (w ++ (32 ∷ rest)) ≡ w ∷ pieces rest
+pieces_cut [] rest no_space = refl
+pieces_cut (b ∷ w) rest no_space =
+    head_stays b w no_space _ _ ∙ ap (onto_first b) (pieces_cut w rest (lacks_tail b w no_space))
 
 -- a space in front changes no word
 words_after_space : (b : ℕ) (bs : List ℕ) → b ≡ 32 → words (b ∷ bs) ≡ words bs
-words_after_space b bs is = ap filled (cond-true (eqb b 32) ([] ∷ pieces bs) (begun b (pieces bs)) (eq-eqb b 32 is))
+words_after_space b bs is = ap (filter filled) (cond-true (eqb b 32) ([] ∷ pieces bs) (onto_first b (pieces bs)) (eq-eqb b 32 is))
 
 words_after_gap : (gap bs : List ℕ) → Spaces gap → words (gap ++ bs) ≡ words bs
 words_after_gap [] bs h = refl
 words_after_gap (b ∷ gap) bs h = words_after_space b (gap ++ bs) h.0 ∙ words_after_gap gap bs h.1
 
-filled_word : (w : List ℕ) (ws : List (List ℕ)) → 0 < length w → filled (w ∷ ws) ≡ w ∷ filled ws
-filled_word [] ws some = absurd (omega arith)
-filled_word (b ∷ w) ws some = refl
+filled_word : (w : List ℕ) (ws : List (List ℕ)) → 0 < length w → filter filled (w ∷ ws) ≡ w ∷ filter filled ws
+filled_word w ws some = cond-true (filled w) _ _ (ap not (ne_eqb (length w) 0 (λ e. omega arith)))
 
 first_word : (w rest : List ℕ) → Word w → Opens rest → words (w ++ rest) ≡ w ∷ words rest
-first_word w [] h o = ap words (append-nil w) ∙ ap filled (pieces_whole w h.1) ∙ filled_word w [] h.0
+first_word w [] h o = ap words (append-nil w) ∙ ap (filter filled) (pieces_whole w h.1) ∙ filled_word w [] h.0
 first_word w (b ∷ rest) h o =
-    ap (λ c. words (w ++ (c ∷ rest))) o ∙ ap filled (pieces_cut w rest h.1) ∙ filled_word w (pieces rest) h.0
+    ap (λ c. words (w ++ (c ∷ rest))) o ∙ ap (filter filled) (pieces_cut w rest h.1) ∙ filled_word w (pieces rest) h.0
     ∙ ap (λ l. w ∷ l) (sym (words_after_space b rest o))
 
 pub one_cut : OneCut

@@ -1,6 +1,4 @@
-mod Words
-mod Verbs
 mod Numerals
 mod Arguments
-mod Orders
+mod Devices
 mod Laws

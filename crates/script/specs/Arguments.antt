@@ -5,6 +5,8 @@
 --   word_at ws n         the word n of ws, or that it is missing
 --   blamed n s           a fault becomes the mistake of the word n
 --   read_at read ws n    the word n as `read` reads it
+--   faulted fault s      what s read; any error becomes the fault
+--   verb w               the name of a command
 --   medium w             `copper` or `fibre`
 --   yardstick w          `plain` or `length`
 --   devices n ws         the numbers of devices that the words ws write, the first of which is the word n
@@ -13,19 +15,20 @@
 --   stop_at n fault      the same mistake as the code's reason to stop
 --   same x               x
 --   Reads f r s          the code's r is what s says, seen through f, unless memory ran out
-use Rattle.std.specs.Prelude.{◌≡◌, ℕ, ◌+◌, ◌-◌, cond, List, [], ◌∷◌, length, drop, Some, None, Ok, Err, codes, Option, Result, nat_le}
+use Rattle.std.specs.Prelude.{◌≡◌, ℕ, ◌+◌, ◌-◌, cond, List, [], ◌∷◌, length, drop, Some, None, Ok, Err, Option, Result, nat_le}
 use Rattle.std.specs.List.{slice_get}
-use Rattle.std.specs.Str.{bytes_eq}
 use Rattle.network.specs.declared.cable.Medium.{Medium}
-use Rattle.network.specs.declared.cable.Medium.TheVariants.{Copper, Fibre}
+use Rattle.network.specs.Media.{medium_named}
 use Rattle.script.specs.declared.command.Yardstick.{Yardstick}
-use Rattle.script.specs.declared.command.Yardstick.TheVariants.{Plain, Length}
+use Rattle.script.specs.Yardsticks.{yardstick_named}
 use Rattle.script.specs.declared.mistake.Fault.{Fault}
-use Rattle.script.specs.declared.mistake.Fault.TheVariants.{MissingWord, ExtraWord, NotAMedium, NotAYardstick}
+use Rattle.script.specs.declared.mistake.Fault.TheVariants.{UnknownCommand, MissingWord, ExtraWord, NotAMedium, NotAYardstick}
 use Rattle.script.specs.declared.mistake.Mistake.{Mistake}
 use Rattle.script.specs.declared.stop.Stop.{Stop}
 use Rattle.script.specs.declared.stop.Stop.TheVariants as stop
+use Rattle.script.specs.declared.verb.Verb.{Verb}
 use Rattle.script.specs.Numerals.{number}
+use Rattle.script.specs.Verbs.{verb_named}
 
 abbrev pub same : {A : Type 0} → A → A
 same x = x
@@ -51,11 +54,18 @@ blamed n (Err fault) = wrong n fault
 abbrev pub read_at : {A : Type 0} → (List ℕ → Result A Fault) → List (List ℕ) → ℕ → Result A Mistake
 read_at read ws n = given (word_at ws n) (λ w. blamed n (read w))
 
+abbrev pub faulted : {A E : Type 0} → Fault → Result A E → Result A Fault
+faulted fault (Ok x) = Ok x
+faulted fault (Err _) = Err fault
+
+abbrev pub verb : List ℕ → Result Verb Fault
+verb w = faulted UnknownCommand (verb_named w)
+
 abbrev pub medium : List ℕ → Result Medium Fault
-medium w = cond (bytes_eq w (codes "copper")) (Ok Copper) (cond (bytes_eq w (codes "fibre")) (Ok Fibre) (Err NotAMedium))
+medium w = faulted NotAMedium (medium_named w)
 
 abbrev pub yardstick : List ℕ → Result Yardstick Fault
-yardstick w = cond (bytes_eq w (codes "plain")) (Ok Plain) (cond (bytes_eq w (codes "length")) (Ok Length) (Err NotAYardstick))
+yardstick w = faulted NotAYardstick (yardstick_named w)
 
 abbrev pub devices : ℕ → List (List ℕ) → Result (List ℕ) Mistake
 devices n [] = Ok []

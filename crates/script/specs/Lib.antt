@@ -2,7 +2,9 @@ pub mod Words
 pub mod Mistakes
 pub mod Verbs
 pub mod Numerals
+pub mod Yardsticks
 pub mod Arguments
 pub mod Orders
+pub mod Cursors
 pub mod Readings
 pub mod Laws

@@ -1,28 +1,15 @@
 -- What a line of a script says. Assumes nothing.
---   Told          nothing, an order, or a mistake
---   told l        what a line of the code says
---   outcome s     an order, or the mistake that stands in its place
---   reading bs    what the line bs says
-use Rattle.std.specs.Prelude.{ℕ, cond, List, Ok, Err, Result}
-use Rattle.script.specs.declared.command.Line.{Line}
-use Rattle.script.specs.declared.command.Line.TheVariants as code
+--   told c        an order, where the code has a command
+--   reading bs    what the line bs says: nothing, an order, or a mistake in its place
+use Rattle.std.specs.Prelude.{ℕ, cond, List, None, Some, Ok, Option, Result, option_map}
+use Rattle.script.specs.declared.command.Command.{Command}
 use Rattle.script.specs.declared.mistake.Mistake.{Mistake}
 use Rattle.script.specs.Words.{words}
+use Rattle.script.specs.Arguments.{given}
 use Rattle.script.specs.Orders.{Order, order_of, order_on, silent}
 
-pub data Told : Type 0 where
-  nothing : Told
-  ordered : Order → Told
-  mistaken : Mistake → Told
+abbrev pub told : Option Command → Option Order
+told c = option_map order_of c
 
-abbrev pub told : Line → Told
-told code.Blank = nothing
-told (code.Command c) = ordered (order_of c)
-told (code.Mistake m) = mistaken m
-
-abbrev pub outcome : Result Order Mistake → Told
-outcome (Ok o) = ordered o
-outcome (Err m) = mistaken m
-
-abbrev pub reading : List ℕ → Told
-reading bs = cond (silent (words bs)) nothing (outcome (order_on (words bs)))
+abbrev pub reading : List ℕ → Result (Option Order) Mistake
+reading bs = cond (silent (words bs)) (Ok None) (given (order_on (words bs)) (λ o. Ok (Some o)))

@@ -1,109 +1,129 @@
-// The words of a line, each read as what a command takes at that place. Places are counted from 1.
-ghost use Rattle.std.specs.Prelude.{◌≡◌, ◌<◌, map, vec_items};
+// The words of a line, each read as what a command takes there.
+ghost use Rattle.std.specs.Prelude.{◌<◌, ◌≡◌, List, ℕ, length, nat_le, Result, OnOk, vec_items};
+ghost use Rattle.std.specs.Fn.{FnOnceReturnsAt};
+ghost use Rattle.script.specs.declared.mistake.Fault.{Fault};
 ghost use Rattle.script.specs.Words.{text};
 ghost use Rattle.script.specs.Numerals.{number, hex};
-ghost use Rattle.script.specs.Arguments.{Reads, same, word_at, read_at, medium, yardstick, devices_from, end_at};
+ghost use Rattle.script.specs.Arguments.{Reads, same, word_at, read_at, faulted, verb, medium, yardstick, devices_from, end_at};
+ghost use Rattle.script.specs.Cursors.{texts, Takes};
 
 use crate::command::Yardstick;
+use crate::cursor::Cursor;
 use crate::mistake::Fault;
-use crate::numeral::{bytes_of, is_hexadecimal, number_in};
+use crate::numeral::{bytes_in, number_in};
 use crate::stop::{Stop, blame};
+use crate::verb::Verb;
 use network::cable::Medium;
-use std::alloc::Global;
+use std::str::FromStr;
 
-/// The word at a place.
-pub fn word_at<'a>(words: &[&'a str], place: usize) -> Result<&'a str, Stop>
-    requires { 0 < place }
-    ensures { Reads text result (word_at (map text words.now) place) }
-{
-    if place > words.len() {
-        return Err(blame(place, Fault::MissingWord));
+impl<'a> Cursor<'a> {
+    /// The next word.
+    fn word(&mut self) -> Result<&'a str, Stop>
+        ensures { Takes text result self.old self.new word_at }
+    {
+        let Some(word) = self.words.get(self.place - 1) else {
+            return Err(blame(self.place, Fault::MissingWord));
+        };
+        self.place += 1;
+        Ok(*word)
     }
-    Ok(words[place - 1])
-}
 
-/// A number of at most `limit`.
-pub fn number_at(words: &[&str], place: usize, limit: u16) -> Result<u16, Stop>
-    requires { 0 < place }
-    ensures { Reads same result (read_at (number limit) (map text words.now) place) }
-{
-    let word = word_at(words, place)?;
-    match number_in(word, limit) {
-        Ok(value) => Ok(value),
-        Err(fault) => Err(blame(place, fault)),
+    /// Whether a word is left.
+    fn has_word(&self) -> bool
+        ensures { result ≡ nat_le self.now.place (length (texts self.now)) }
+    {
+        self.place <= self.words.len()
     }
-}
 
-/// A number of at most 255.
-pub fn byte_at(words: &[&str], place: usize) -> Result<u8, Stop>
-    requires { 0 < place }
-    ensures { Reads same result (read_at (number 255) (map text words.now) place) }
-{
-    let value = number_at(words, place, 255)?;
-    Ok(value as u8)
-}
+    /// The next word, as `parse` reads it.
+    fn read<T, F: FnOnce(&str) -> Result<T, Fault>>(&mut self, parse: F) -> Result<T, Stop>
+        requires { F.IsAlwaysCallable parse }
+        ensures { (says : List ℕ → Result T Fault) → ((w : List ℕ) (r : Result T Fault) → FnOnceReturnsAt F.FnOnce parse w r → r ≡ says w) → Takes same result self.old self.new (read_at says) }
+    {
+        let place = self.place;
+        let word = self.word()?;
+        parse(word).map_err(|fault| blame(place, fault))
+    }
 
-/// A medium.
-pub fn medium_at(words: &[&str], place: usize) -> Result<Medium, Stop>
-    requires { 0 < place }
-    ensures { Reads same result (read_at medium (map text words.now) place) }
-{
-    let word = word_at(words, place)?;
-    match word {
-        "copper" => Ok(Medium::Copper),
-        "fibre" => Ok(Medium::Fibre),
-        _ => Err(blame(place, Fault::NotAMedium)),
+    /// The next word, as a number of at most `limit`.
+    pub fn number(&mut self, limit: u16) -> Result<u16, Stop>
+        ensures { Takes same result self.old self.new (read_at (number limit)) }
+    {
+        self.read(|word| number_in(word, limit))
     }
-}
 
-/// A yardstick.
-pub fn yardstick_at(words: &[&str], place: usize) -> Result<Yardstick, Stop>
-    requires { 0 < place }
-    ensures { Reads same result (read_at yardstick (map text words.now) place) }
-{
-    let word = word_at(words, place)?;
-    match word {
-        "plain" => Ok(Yardstick::Plain),
-        "length" => Ok(Yardstick::Length),
-        _ => Err(blame(place, Fault::NotAYardstick)),
+    /// The next word, as a number of at most 255.
+    pub fn byte(&mut self) -> Result<u8, Stop>
+        ensures { Takes same result self.old self.new (read_at (number 255)) }
+    {
+        let value = self.number(255)?;
+        Ok(value as u8)
     }
-}
 
-/// Bytes in hexadecimal, `-` for none.
-pub fn bytes_at(heap: Global, words: &[&str], place: usize) -> Result<Vec<u8>, Stop>
-    requires { 0 < place }
-    ensures { Reads vec_items result (read_at hex (map text words.now) place) }
-{
-    let word = word_at(words, place)?;
-    if word == "-" {
-        return Ok(Vec::new(heap));
+    /// The next word, as what it names; where it names nothing, `fault` is wrong with it.
+    fn named<T: FromStr>(&mut self, fault: Fault) -> Result<T, Stop>
+    where
+        T::Err: Drop,
+        ensures { (says : List ℕ → Result T T.Err) → ((w : List ℕ) (r : Result T T.Err) → T.from_str_gives w r → r ≡ says w) → Takes same result self.old self.new (read_at (λ w. faulted fault (says w))) }
+    {
+        self.read(|word| word.parse().map_err(|_| fault))
     }
-    if !is_hexadecimal(word) {
-        return Err(blame(place, Fault::NotHexadecimal));
-    }
-    let bytes = bytes_of(heap, word)?;
-    Ok(bytes)
-}
 
-/// The devices from a place to the end of the line.
-pub fn devices_from(heap: Global, words: &[&str], place: usize) -> Result<Vec<u8>, Stop>
-    requires { 0 < place }
-    ensures { Reads vec_items result (devices_from (map text words.now) place) }
-{
-    let mut devices = Vec::new(heap);
-    for index in place - 1..words.len() {
-        let device = byte_at(words, index + 1)?;
-        devices.push(device)?;
+    /// The next word, as a command's name.
+    pub fn verb(&mut self) -> Result<Verb, Stop>
+        ensures { Takes same result self.old self.new (read_at verb) }
+    {
+        self.named(Fault::UnknownCommand)
     }
-    Ok(devices)
-}
 
-/// That no word stands at a place.
-pub fn end_at(words: &[&str], place: usize) -> Result<(), Stop>
-    ensures { Reads same result (end_at (map text words.now) place) }
-{
-    if place <= words.len() {
-        return Err(blame(place, Fault::ExtraWord));
+    /// The next word, as a medium.
+    pub fn medium(&mut self) -> Result<Medium, Stop>
+        ensures { Takes same result self.old self.new (read_at medium) }
+    {
+        self.named(Fault::NotAMedium)
     }
-    Ok(())
+
+    /// The next word, as a yardstick.
+    pub fn yardstick(&mut self) -> Result<Yardstick, Stop>
+        ensures { Takes same result self.old self.new (read_at yardstick) }
+    {
+        self.named(Fault::NotAYardstick)
+    }
+
+    /// The next word, as bytes in hexadecimal, `-` for none.
+    pub fn bytes(&mut self) -> Result<Vec<u8>, Stop>
+        ensures { Takes vec_items result self.old self.new (read_at hex) }
+    {
+        let place = self.place;
+        let word = self.word()?;
+        if word == "-" {
+            return Ok(Vec::new(self.heap));
+        }
+        let bytes = bytes_in(self.heap, word)?;
+        bytes.ok_or(blame(place, Fault::NotHexadecimal))
+    }
+
+    /// The words that are left, as numbers of devices.
+    pub fn devices(&mut self) -> Result<Vec<u8>, Stop>
+        ensures read { Reads vec_items result (devices_from (texts self.old) self.old.place) }
+        ensures line { texts self.new ≡ texts self.old }
+        ensures end { OnOk result (length (texts self.new) < self.new.place) }
+    {
+        let mut devices = Vec::new(self.heap);
+        while self.has_word() {
+            let device = self.byte()?;
+            devices.push(device)?;
+        }
+        Ok(devices)
+    }
+
+    /// That no word is left.
+    pub fn end(&self) -> Result<(), Stop>
+        ensures { Reads same result (end_at (texts self.now) self.now.place) }
+    {
+        if self.has_word() {
+            return Err(blame(self.place, Fault::ExtraWord));
+        }
+        Ok(())
+    }
 }

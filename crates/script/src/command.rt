@@ -1,5 +1,4 @@
 // The commands of a script.
-use crate::mistake::Mistake;
 use network::cable::TourCable;
 
 /// The yardstick of a run: plain, or by length.
@@ -46,12 +45,4 @@ pub enum Command {
     Cut(Vec<u8>),
     /// `judge K HEX D ..`
     Judge(Claim),
-}
-
-/// What a line of a script says.
-#[derive(PartialEq, Eq, Debug, Drop)]
-pub enum Line {
-    Blank,
-    Command(Command),
-    Mistake(Mistake),
 }

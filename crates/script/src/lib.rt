@@ -1,39 +1,37 @@
 // The language of a console script: one command a line.
 #![tactic(auto)]
 
-ghost use Rattle.std.specs.Prelude.{◌≡◌, IfOk};
+ghost use Rattle.script.specs.Arguments.{Reads};
 ghost use Rattle.script.specs.Laws.{WordsAreRuns, OneCut};
 ghost use Rattle.script.specs.Readings.{told, reading};
 
-use std::alloc::{AllocError, Global};
+use std::alloc::Global;
 
 mod argument;
 pub mod command;
+mod cursor;
 pub mod mistake;
 mod numeral;
 mod read;
 mod split;
-mod stop;
+pub mod stop;
 mod verb;
+pub mod yardstick;
 
-use command::Line;
-use read::{command_of, says_nothing};
-use split::words_of;
+use command::Command;
+use cursor::Cursor;
 use stop::Stop;
 
-/// What a line says: nothing, a command, or the first mistake in it. Only a lack of memory is an error.
-pub fn parse(heap: Global, line: &str) -> Result<Line, AllocError>
-    ensures { IfOk result (λ l. told l ≡ reading line.now) }
+/// The command that a line gives, none where it says nothing, or the first mistake in it.
+pub fn parse(heap: Global, line: &str) -> Result<Option<Command>, Stop>
+    ensures { Reads told result (reading line.now) }
 {
-    let words = words_of(heap, line)?;
-    if says_nothing(&words) {
-        return Ok(Line::Blank);
+    let mut words = Cursor::new(heap, line)?;
+    if words.says_nothing() {
+        return Ok(None);
     }
-    match command_of(heap, &words) {
-        Ok(command) => Ok(Line::Command(command)),
-        Err(Stop::Mistake(mistake)) => Ok(Line::Mistake(mistake)),
-        Err(Stop::Memory) => Err(AllocError),
-    }
+    let command = words.command()?;
+    Ok(Some(command))
 }
 
 /// The words of a line are its maximal runs of bytes other than the space, and it has no others.

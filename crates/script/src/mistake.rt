@@ -1,5 +1,5 @@
 // What can be wrong with a line of a script.
-ghost use Rattle.std.specs.Prelude.{◌≡◌, ◌++◌, Some, codes, decimal};
+ghost use Rattle.std.specs.Prelude.{◌++◌, Some, codes, decimal};
 ghost use Rattle.script.specs.Mistakes.{said};
 
 use std::fmt;
@@ -32,12 +32,12 @@ pub struct Mistake {
     pub fault: Fault,
 }
 
-impl Fault {
-    /// What is said of a word with this fault.
-    pub fn says(self) -> &'static str
-        ensures { result.now ≡ said self }
-    {
-        match self {
+/// What is said of a word with this fault, as `is not a number`.
+impl fmt::Display for Fault {
+    ghost output = { λ fault. Some (said fault) };
+
+    fn fmt<W: fmt::Write>(&self, f: &mut fmt::Formatter<W>) -> fmt::Result {
+        f.write_str(match self {
             Fault::UnknownCommand => "is no command",
             Fault::MissingWord => "is missing",
             Fault::ExtraWord => "is one too many",
@@ -46,7 +46,7 @@ impl Fault {
             Fault::NotHexadecimal => "is not hexadecimal",
             Fault::NotAMedium => "is neither copper nor fibre",
             Fault::NotAYardstick => "is neither plain nor length",
-        }
+        })
     }
 }
 
@@ -55,8 +55,7 @@ impl fmt::Display for Mistake {
     ghost output = { λ m. Some (codes "word " ++ (decimal m.word ++ (codes " " ++ said m.fault))) };
 
     fn fmt<W: fmt::Write>(&self, f: &mut fmt::Formatter<W>) -> fmt::Result {
-        let word = self.word;
-        let says = self.fault.says();
-        write!(f, "word {word} {says}")
+        let Mistake { word, fault } = *self;
+        write!(f, "word {word} {fault}")
     }
 }

@@ -1,145 +1,99 @@
 // The commands, each read from the words of its line.
-ghost use Rattle.std.specs.Prelude.{◌≡◌, map, Some};
-ghost use Rattle.script.specs.Words.{text};
-ghost use Rattle.script.specs.Arguments.{Reads};
-ghost use Rattle.script.specs.Orders.{order_of, ending, order, order_on, silent};
-ghost use Rattle.script.specs.declared.verb.Verb.TheVariants as verb;
+ghost use Rattle.std.specs.Prelude.{◌≡◌, ◌+◌, ◌<◌, OnOk, length};
+ghost use Rattle.script.specs.Arguments.{Reads, same};
+ghost use Rattle.script.specs.Orders.{order_of, order, order_on, run_at, cable_at, tour_cable_at, claimed, claim_at, silent};
+ghost use Rattle.script.specs.Cursors.{texts, Leads};
 
-use crate::argument::{
-    byte_at, bytes_at, devices_from, end_at, medium_at, number_at, word_at, yardstick_at,
-};
 use crate::command::{Claim, Command};
-use crate::mistake::Fault;
-use crate::stop::{Stop, blame};
-use crate::verb::{Verb, verb_of};
+use crate::cursor::Cursor;
+use crate::stop::Stop;
+use crate::verb::Verb;
 use network::cable::{Cable, Run, TourCable};
-use std::alloc::Global;
 
-/// A command, unless a word is left over at a place.
-fn ended(words: &[&str], place: usize, command: Command) -> Result<Command, Stop>
-    ensures { Reads order_of result (ending (map text words.now) place (order_of command)) }
-{
-    end_at(words, place)?;
-    Ok(command)
-}
-
-fn house(heap: Global, words: &[&str]) -> Result<Command, Stop>
-    ensures { Reads order_of result (order (Some verb.House) (map text words.now)) }
-{
-    let sheet = bytes_at(heap, words, 2)?;
-    ended(words, 3, Command::House(sheet))
-}
-
-fn shift(words: &[&str]) -> Result<Command, Stop>
-    ensures { Reads order_of result (order (Some verb.Shift) (map text words.now)) }
-{
-    let by = byte_at(words, 2)?;
-    ended(words, 3, Command::Shift(by))
-}
-
-fn lay(words: &[&str]) -> Result<Command, Stop>
-    ensures { Reads order_of result (order (Some verb.Lay) (map text words.now)) }
-{
-    let tag = number_at(words, 2, u16::MAX)?;
-    let a = byte_at(words, 3)?;
-    let b = byte_at(words, 4)?;
-    let medium = medium_at(words, 5)?;
-    let length = number_at(words, 6, u16::MAX)?;
-    let run = Run { medium, length };
-    let cable = Cable { a, b, run };
-    ended(words, 7, Command::Lay(TourCable { tag, cable }))
-}
-
-fn lift(words: &[&str]) -> Result<Command, Stop>
-    ensures { Reads order_of result (order (Some verb.Lift) (map text words.now)) }
-{
-    let tag = number_at(words, 2, u16::MAX)?;
-    ended(words, 3, Command::Lift(tag))
-}
-
-fn mark(words: &[&str]) -> Result<Command, Stop>
-    ensures { Reads order_of result (order (Some verb.Mark) (map text words.now)) }
-{
-    let place = number_at(words, 2, u16::MAX)?;
-    ended(words, 3, Command::Mark(place))
-}
-
-fn strength(heap: Global, words: &[&str]) -> Result<Command, Stop>
-    ensures { Reads order_of result (order (Some verb.Strength) (map text words.now)) }
-{
-    let list = devices_from(heap, words, 2)?;
-    Ok(Command::Strength(list))
-}
-
-fn group(heap: Global, words: &[&str]) -> Result<Command, Stop>
-    ensures { Reads order_of result (order (Some verb.Group) (map text words.now)) }
-{
-    let list = devices_from(heap, words, 2)?;
-    Ok(Command::Group(list))
-}
-
-fn run(heap: Global, words: &[&str]) -> Result<Command, Stop>
-    ensures { Reads order_of result (order (Some verb.Run) (map text words.now)) }
-{
-    let yardstick = yardstick_at(words, 2)?;
-    let list = devices_from(heap, words, 3)?;
-    Ok(Command::Run(yardstick, list))
-}
-
-fn cut(heap: Global, words: &[&str]) -> Result<Command, Stop>
-    ensures { Reads order_of result (order (Some verb.Cut) (map text words.now)) }
-{
-    let list = devices_from(heap, words, 2)?;
-    Ok(Command::Cut(list))
-}
-
-fn judge(heap: Global, words: &[&str]) -> Result<Command, Stop>
-    ensures { Reads order_of result (order (Some verb.Judge) (map text words.now)) }
-{
-    let k = number_at(words, 2, u16::MAX)?;
-    let sheet = bytes_at(heap, words, 3)?;
-    let list = devices_from(heap, words, 4)?;
-    Ok(Command::Judge(Claim { k, sheet, list }))
-}
-
-/// The command that the words of a line give, whose first word names the verb.
-fn command_named(heap: Global, name: Option<Verb>, words: &[&str]) -> Result<Command, Stop>
-    ensures { Reads order_of result (order name (map text words.now)) }
-{
-    let Some(verb) = name else {
-        return Err(blame(1, Fault::UnknownCommand));
-    };
-    match verb {
-        Verb::House => house(heap, words),
-        Verb::Shift => shift(words),
-        Verb::Begin => ended(words, 2, Command::Begin),
-        Verb::Lay => lay(words),
-        Verb::Lift => lift(words),
-        Verb::Close => ended(words, 2, Command::Close),
-        Verb::Reopen => ended(words, 2, Command::Reopen),
-        Verb::Mark => mark(words),
-        Verb::Strength => strength(heap, words),
-        Verb::Group => group(heap, words),
-        Verb::Run => run(heap, words),
-        Verb::Cut => cut(heap, words),
-        Verb::Judge => judge(heap, words),
+impl<'a> Cursor<'a> {
+    /// The next words, as a run: its medium and its length.
+    fn run(&mut self) -> Result<Run, Stop>
+        ensures read { Reads same result (run_at (texts self.old) self.old.place) }
+        ensures line { texts self.new ≡ texts self.old }
+        ensures next { OnOk result (self.new.place ≡ self.old.place + 2) }
+    {
+        let medium = self.medium()?;
+        let length = self.number(u16::MAX)?;
+        Ok(Run { medium, length })
     }
-}
 
-/// The command that the words of a line give.
-pub fn command_of(heap: Global, words: &[&str]) -> Result<Command, Stop>
-    ensures { Reads order_of result (order_on (map text words.now)) }
-{
-    let word = word_at(words, 1)?;
-    command_named(heap, verb_of(word), words)
-}
-
-/// Whether there is no word, or the first begins a comment.
-pub fn says_nothing(words: &[&str]) -> bool
-    ensures { result ≡ silent (map text words.now) }
-{
-    if words.is_empty() {
-        return true;
+    /// The next words, as a cable: its two ends and its run.
+    fn cable(&mut self) -> Result<Cable, Stop>
+        ensures read { Reads same result (cable_at (texts self.old) self.old.place) }
+        ensures line { texts self.new ≡ texts self.old }
+        ensures next { OnOk result (self.new.place ≡ self.old.place + 4) }
+    {
+        let a = self.byte()?;
+        let b = self.byte()?;
+        let run = self.run()?;
+        Ok(Cable { a, b, run })
     }
-    words[0].starts_with('#')
+
+    /// The next words, as a cable of a tour: the tag of its drum and the cable.
+    fn tour_cable(&mut self) -> Result<TourCable, Stop>
+        ensures read { Reads same result (tour_cable_at (texts self.old) self.old.place) }
+        ensures line { texts self.new ≡ texts self.old }
+        ensures next { OnOk result (self.new.place ≡ self.old.place + 5) }
+    {
+        let tag = self.number(u16::MAX)?;
+        let cable = self.cable()?;
+        Ok(TourCable { tag, cable })
+    }
+
+    /// The words that are left, as a claim: a strength, a cut sheet and devices.
+    fn claim(&mut self) -> Result<Claim, Stop>
+        ensures read { Reads claimed result (claim_at (texts self.old) self.old.place) }
+        ensures line { texts self.new ≡ texts self.old }
+        ensures end { OnOk result (length (texts self.new) < self.new.place) }
+    {
+        let k = self.number(u16::MAX)?;
+        let sheet = self.bytes()?;
+        let list = self.devices()?;
+        Ok(Claim { k, sheet, list })
+    }
+
+    /// What follows a command's name, all but the end of the line.
+    fn arguments(&mut self, verb: Verb) -> Result<Command, Stop>
+        requires { self.old.place ≡ 2 }
+        ensures { Leads result self.new (order verb (texts self.old)) }
+    {
+        Ok(match verb {
+            Verb::House => Command::House(self.bytes()?),
+            Verb::Shift => Command::Shift(self.byte()?),
+            Verb::Begin => Command::Begin,
+            Verb::Lay => Command::Lay(self.tour_cable()?),
+            Verb::Lift => Command::Lift(self.number(u16::MAX)?),
+            Verb::Close => Command::Close,
+            Verb::Reopen => Command::Reopen,
+            Verb::Mark => Command::Mark(self.number(u16::MAX)?),
+            Verb::Strength => Command::Strength(self.devices()?),
+            Verb::Group => Command::Group(self.devices()?),
+            Verb::Run => Command::Run(self.yardstick()?, self.devices()?),
+            Verb::Cut => Command::Cut(self.devices()?),
+            Verb::Judge => Command::Judge(self.claim()?),
+        })
+    }
+
+    /// The command that the words of a line give.
+    pub fn command(&mut self) -> Result<Command, Stop>
+        requires { self.old.place ≡ 1 }
+        ensures { Reads order_of result (order_on (texts self.old)) }
+    {
+        let verb = self.verb()?;
+        let command = self.arguments(verb)?;
+        self.end()?;
+        Ok(command)
+    }
+
+    /// Whether there is no word, or the first begins a comment.
+    pub fn says_nothing(&self) -> bool
+        ensures { result ≡ silent (texts self.now) }
+    {
+        self.words.first().is_none_or(|word| word.starts_with('#'))
+    }
 }

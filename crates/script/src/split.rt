@@ -8,12 +8,7 @@ use std::alloc::{AllocError, Global};
 pub fn words_of<'a>(heap: Global, line: &'a str) -> Result<Vec<&'a str>, AllocError>
     ensures { IfOk result (λ v. map text v.items ≡ words line.now) }
 {
-    let mut found = Vec::new(heap);
-    for piece in line.split(' ') {
-        if piece.is_empty() {
-            continue;
-        }
-        found.push(piece)?;
-    }
-    Ok(found)
+    line.split(' ')
+        .filter(|piece| !piece.is_empty())
+        .collect(heap)
 }

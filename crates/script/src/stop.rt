@@ -7,7 +7,7 @@ use crate::mistake::{Fault, Mistake};
 use std::alloc::{AllocError, AllocFailed};
 
 /// A mistake in the line, or no memory.
-#[derive(Drop)]
+#[derive(Clone, Copy, PartialEq, Eq, Debug)]
 pub enum Stop {
     Mistake(Mistake),
     Memory,

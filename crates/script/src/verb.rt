@@ -2,6 +2,8 @@
 ghost use Rattle.std.specs.Prelude.{◌≡◌};
 ghost use Rattle.script.specs.Verbs.{verb_named};
 
+use std::str::FromStr;
+
 /// The name of a command.
 #[derive(Clone, Copy)]
 pub enum Verb {
@@ -20,25 +22,32 @@ pub enum Verb {
     Judge,
 }
 
-/// The command that a word names.
-pub fn verb_of(word: &str) -> Option<Verb>
-    ensures { result ≡ verb_named word.now }
-{
-    let verb = match word {
-        "house" => Verb::House,
-        "shift" => Verb::Shift,
-        "begin" => Verb::Begin,
-        "lay" => Verb::Lay,
-        "lift" => Verb::Lift,
-        "close" => Verb::Close,
-        "reopen" => Verb::Reopen,
-        "mark" => Verb::Mark,
-        "strength" => Verb::Strength,
-        "group" => Verb::Group,
-        "run" => Verb::Run,
-        "cut" => Verb::Cut,
-        "judge" => Verb::Judge,
-        _ => return None,
-    };
-    Some(verb)
+/// A word that names no command.
+#[derive(Clone, Copy)]
+pub struct UnknownVerb;
+
+/// The command of that name.
+impl FromStr for Verb {
+    type Err = UnknownVerb;
+
+    ghost from_str_gives = { λ word r. r ≡ verb_named word };
+
+    fn from_str(word: &str) -> Result<Self, UnknownVerb> {
+        match word {
+            "house" => Ok(Verb::House),
+            "shift" => Ok(Verb::Shift),
+            "begin" => Ok(Verb::Begin),
+            "lay" => Ok(Verb::Lay),
+            "lift" => Ok(Verb::Lift),
+            "close" => Ok(Verb::Close),
+            "reopen" => Ok(Verb::Reopen),
+            "mark" => Ok(Verb::Mark),
+            "strength" => Ok(Verb::Strength),
+            "group" => Ok(Verb::Group),
+            "run" => Ok(Verb::Run),
+            "cut" => Ok(Verb::Cut),
+            "judge" => Ok(Verb::Judge),
+            _ => Err(UnknownVerb),
+        }
+    }
 }
