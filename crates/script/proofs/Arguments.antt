@@ -11,11 +11,7 @@ use Rattle.script.specs.declared.mistake.Mistake.{Mistake}
 use Rattle.script.specs.declared.stop.Stop.{Stop}
 use Rattle.script.specs.declared.stop.Stop.TheVariants as stop
 use Rattle.script.specs.Numerals.{hexadecimal, bytes, hex}
-use Rattle.script.specs.Arguments.{wrong, given, blamed, word_at, read_at, stop_at, same, Reads}
-
--- the code stops at the word n where the line is wrong there
-pub stops : {X Y : Type 0} (f : X → Y) (e : Stop) (n : ℕ) (fault : Fault) (s : Result Y Mistake) → e ≡ stop_at n fault → s ≡ wrong n fault → Reads f (Err e) s
-stops f e n fault s is bad = subst (λ x. Reads f (Err x) s) (sym is) bad
+use Rattle.script.specs.Arguments.{given, blamed, word_at, read_at, stop_at, same, Reads}
 
 -- what stops the reading of a part stops the whole
 pub stops_whole : {X X' Y Y' : Type 0} (f : X → Y) (g : X' → Y') (e : Stop) (s : Result Y Mistake) (t : Result Y' Mistake) → ((m : Mistake) → s ≡ Err m → t ≡ Err m) → Reads f (Err e) s → Reads g (Err e) t

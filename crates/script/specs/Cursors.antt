@@ -1,9 +1,10 @@
 -- Where the reading of a line stands. Assumes nothing.
---   texts c                the words of the line
---   Takes f r c c' read    the code's r is what `read` says of the next word, seen through f; where it is read, the word after
---                          it is next
---   Leads r c s            the code's r is what s says, but for the end of the line, which is looked for at c
-use Rattle.std.specs.Prelude.{◌≡◌, ℕ, ◌+◌, List, map, OnOk, vec_items, Ok, Err, Result}
+--   texts c                     the words of the line
+--   Takes n f r c c' read       the code's r is what `read` says of the words that are next at c, seen through f; where they are
+--                               read, c' stands n words further
+--   TakesRest f r c c' read     the same, where c' stands past the last word
+--   Leads r c s                 the code's r is what s says, but for the end of the line, which is looked for at c
+use Rattle.std.specs.Prelude.{◌≡◌, ℕ, ◌+◌, ◌<◌, List, length, map, OnOk, vec_items, Ok, Err, Result}
 use Rattle.script.specs.declared.command.Command.{Command}
 use Rattle.script.specs.declared.cursor.Cursor.{Cursor}
 use Rattle.script.specs.declared.mistake.Mistake.{Mistake}
@@ -16,8 +17,11 @@ use Rattle.script.specs.Orders.{Order, order_of, ending}
 abbrev pub texts : Cursor → List (List ℕ)
 texts c = map text (vec_items c.words)
 
-abbrev pub Takes : {X Y : Type 0} → (X → Y) → Result X Stop → Cursor → Cursor → (List (List ℕ) → ℕ → Result Y Mistake) → Type 0
-Takes f r c c' read = Reads f r (read (texts c) c.place) × (texts c' ≡ texts c) × OnOk r (c'.place ≡ c.place + 1)
+abbrev pub Takes : {X Y : Type 0} → ℕ → (X → Y) → Result X Stop → Cursor → Cursor → (List (List ℕ) → ℕ → Result Y Mistake) → Type 0
+Takes n f r c c' read = Reads f r (read (texts c) c.place) × (texts c' ≡ texts c) × OnOk r (c'.place ≡ c.place + n)
+
+abbrev pub TakesRest : {X Y : Type 0} → (X → Y) → Result X Stop → Cursor → Cursor → (List (List ℕ) → ℕ → Result Y Mistake) → Type 0
+TakesRest f r c c' read = Reads f r (read (texts c) c.place) × (texts c' ≡ texts c) × OnOk r (length (texts c') < c'.place)
 
 abbrev pub Leads : Result Command Stop → Cursor → Result Order Mistake → Type 0
 Leads (Ok command) c s = s ≡ ending (texts c) c.place (order_of command)

@@ -1,11 +1,11 @@
 // The words of a line, each read as what a command takes there.
-ghost use Rattle.std.specs.Prelude.{◌<◌, ◌≡◌, List, ℕ, length, nat_le, Result, OnOk, vec_items};
+ghost use Rattle.std.specs.Prelude.{◌≡◌, List, ℕ, length, nat_le, Result, vec_items};
 ghost use Rattle.std.specs.Fn.{FnOnceReturnsAt};
 ghost use Rattle.script.specs.declared.mistake.Fault.{Fault};
 ghost use Rattle.script.specs.Words.{text};
 ghost use Rattle.script.specs.Numerals.{number, hex};
 ghost use Rattle.script.specs.Arguments.{Reads, same, word_at, read_at, faulted, verb, medium, yardstick, devices_from, end_at};
-ghost use Rattle.script.specs.Cursors.{texts, Takes};
+ghost use Rattle.script.specs.Cursors.{texts, Takes, TakesRest};
 
 use crate::command::Yardstick;
 use crate::cursor::Cursor;
@@ -19,7 +19,7 @@ use std::str::FromStr;
 impl<'a> Cursor<'a> {
     /// The next word.
     fn word(&mut self) -> Result<&'a str, Stop>
-        ensures { Takes text result self.old self.new word_at }
+        ensures { Takes 1 text result self.old self.new word_at }
     {
         let Some(word) = self.words.get(self.place - 1) else {
             return Err(blame(self.place, Fault::MissingWord));
@@ -38,7 +38,7 @@ impl<'a> Cursor<'a> {
     /// The next word, as `parse` reads it.
     fn read<T, F: FnOnce(&str) -> Result<T, Fault>>(&mut self, parse: F) -> Result<T, Stop>
         requires { F.IsAlwaysCallable parse }
-        ensures { (says : List ℕ → Result T Fault) → ((w : List ℕ) (r : Result T Fault) → FnOnceReturnsAt F.FnOnce parse w r → r ≡ says w) → Takes same result self.old self.new (read_at says) }
+        ensures { (says : List ℕ → Result T Fault) → ((w : List ℕ) (r : Result T Fault) → FnOnceReturnsAt F.FnOnce parse w r → r ≡ says w) → Takes 1 same result self.old self.new (read_at says) }
     {
         let place = self.place;
         let word = self.word()?;
@@ -47,14 +47,14 @@ impl<'a> Cursor<'a> {
 
     /// The next word, as a number of at most `limit`.
     pub fn number(&mut self, limit: u16) -> Result<u16, Stop>
-        ensures { Takes same result self.old self.new (read_at (number limit)) }
+        ensures { Takes 1 same result self.old self.new (read_at (number limit)) }
     {
         self.read(|word| number_in(word, limit))
     }
 
     /// The next word, as a number of at most 255.
     pub fn byte(&mut self) -> Result<u8, Stop>
-        ensures { Takes same result self.old self.new (read_at (number 255)) }
+        ensures { Takes 1 same result self.old self.new (read_at (number 255)) }
     {
         let value = self.number(255)?;
         Ok(value as u8)
@@ -64,35 +64,35 @@ impl<'a> Cursor<'a> {
     fn named<T: FromStr>(&mut self, fault: Fault) -> Result<T, Stop>
     where
         T::Err: Drop,
-        ensures { (says : List ℕ → Result T T.Err) → ((w : List ℕ) (r : Result T T.Err) → T.from_str_gives w r → r ≡ says w) → Takes same result self.old self.new (read_at (λ w. faulted fault (says w))) }
+        ensures { (says : List ℕ → Result T T.Err) → ((w : List ℕ) (r : Result T T.Err) → T.from_str_gives w r → r ≡ says w) → Takes 1 same result self.old self.new (read_at (λ w. faulted fault (says w))) }
     {
         self.read(|word| word.parse().map_err(|_| fault))
     }
 
     /// The next word, as a command's name.
     pub fn verb(&mut self) -> Result<Verb, Stop>
-        ensures { Takes same result self.old self.new (read_at verb) }
+        ensures { Takes 1 same result self.old self.new (read_at verb) }
     {
         self.named(Fault::UnknownCommand)
     }
 
     /// The next word, as a medium.
     pub fn medium(&mut self) -> Result<Medium, Stop>
-        ensures { Takes same result self.old self.new (read_at medium) }
+        ensures { Takes 1 same result self.old self.new (read_at medium) }
     {
         self.named(Fault::NotAMedium)
     }
 
     /// The next word, as a yardstick.
     pub fn yardstick(&mut self) -> Result<Yardstick, Stop>
-        ensures { Takes same result self.old self.new (read_at yardstick) }
+        ensures { Takes 1 same result self.old self.new (read_at yardstick) }
     {
         self.named(Fault::NotAYardstick)
     }
 
     /// The next word, as bytes in hexadecimal, `-` for none.
     pub fn bytes(&mut self) -> Result<Vec<u8>, Stop>
-        ensures { Takes vec_items result self.old self.new (read_at hex) }
+        ensures { Takes 1 vec_items result self.old self.new (read_at hex) }
     {
         let place = self.place;
         let word = self.word()?;
@@ -105,9 +105,7 @@ impl<'a> Cursor<'a> {
 
     /// The words that are left, as numbers of devices.
     pub fn devices(&mut self) -> Result<Vec<u8>, Stop>
-        ensures read { Reads vec_items result (devices_from (texts self.old) self.old.place) }
-        ensures line { texts self.new ≡ texts self.old }
-        ensures end { OnOk result (length (texts self.new) < self.new.place) }
+        ensures { TakesRest vec_items result self.old self.new devices_from }
     {
         let mut devices = Vec::new(self.heap);
         while self.has_word() {

@@ -2,7 +2,6 @@
 ghost use Rattle.std.specs.Prelude.{◌≡◌, ◌<◌, IfOk, map};
 ghost use Rattle.script.specs.Words.{words, text};
 
-use crate::split::words_of;
 use std::alloc::{AllocError, Global};
 
 /// The words of a line, and the place of the one to be read next. Places are counted from 1, and the one past the last word
@@ -16,12 +15,15 @@ pub struct Cursor<'a> {
 }
 
 impl<'a> Cursor<'a> {
-    /// At the first word of a line.
+    /// The words of a line, at the first of them.
     pub fn new(heap: Global, line: &'a str) -> Result<Cursor<'a>, AllocError>
         ensures words { IfOk result (λ c. map text c.words.items ≡ words line.now) }
         ensures place { IfOk result (λ c. c.place ≡ 1) }
     {
-        let words = words_of(heap, line)?;
+        let words = line
+            .split(' ')
+            .filter(|piece| !piece.is_empty())
+            .collect(heap)?;
         Ok(Cursor {
             heap,
             words,

@@ -13,7 +13,6 @@ mod cursor;
 pub mod mistake;
 mod numeral;
 mod read;
-mod split;
 pub mod stop;
 mod verb;
 pub mod yardstick;

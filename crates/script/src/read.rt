@@ -1,8 +1,8 @@
 // The commands, each read from the words of its line.
-ghost use Rattle.std.specs.Prelude.{◌≡◌, ◌+◌, ◌<◌, OnOk, length};
+ghost use Rattle.std.specs.Prelude.{◌≡◌};
 ghost use Rattle.script.specs.Arguments.{Reads, same};
 ghost use Rattle.script.specs.Orders.{order_of, order, order_on, run_at, cable_at, tour_cable_at, claimed, claim_at, silent};
-ghost use Rattle.script.specs.Cursors.{texts, Leads};
+ghost use Rattle.script.specs.Cursors.{texts, Takes, TakesRest, Leads};
 
 use crate::command::{Claim, Command};
 use crate::cursor::Cursor;
@@ -13,9 +13,7 @@ use network::cable::{Cable, Run, TourCable};
 impl<'a> Cursor<'a> {
     /// The next words, as a run: its medium and its length.
     fn run(&mut self) -> Result<Run, Stop>
-        ensures read { Reads same result (run_at (texts self.old) self.old.place) }
-        ensures line { texts self.new ≡ texts self.old }
-        ensures next { OnOk result (self.new.place ≡ self.old.place + 2) }
+        ensures { Takes 2 same result self.old self.new run_at }
     {
         let medium = self.medium()?;
         let length = self.number(u16::MAX)?;
@@ -24,9 +22,7 @@ impl<'a> Cursor<'a> {
 
     /// The next words, as a cable: its two ends and its run.
     fn cable(&mut self) -> Result<Cable, Stop>
-        ensures read { Reads same result (cable_at (texts self.old) self.old.place) }
-        ensures line { texts self.new ≡ texts self.old }
-        ensures next { OnOk result (self.new.place ≡ self.old.place + 4) }
+        ensures { Takes 4 same result self.old self.new cable_at }
     {
         let a = self.byte()?;
         let b = self.byte()?;
@@ -36,9 +32,7 @@ impl<'a> Cursor<'a> {
 
     /// The next words, as a cable of a tour: the tag of its drum and the cable.
     fn tour_cable(&mut self) -> Result<TourCable, Stop>
-        ensures read { Reads same result (tour_cable_at (texts self.old) self.old.place) }
-        ensures line { texts self.new ≡ texts self.old }
-        ensures next { OnOk result (self.new.place ≡ self.old.place + 5) }
+        ensures { Takes 5 same result self.old self.new tour_cable_at }
     {
         let tag = self.number(u16::MAX)?;
         let cable = self.cable()?;
@@ -47,9 +41,7 @@ impl<'a> Cursor<'a> {
 
     /// The words that are left, as a claim: a strength, a cut sheet and devices.
     fn claim(&mut self) -> Result<Claim, Stop>
-        ensures read { Reads claimed result (claim_at (texts self.old) self.old.place) }
-        ensures line { texts self.new ≡ texts self.old }
-        ensures end { OnOk result (length (texts self.new) < self.new.place) }
+        ensures { TakesRest claimed result self.old self.new claim_at }
     {
         let k = self.number(u16::MAX)?;
         let sheet = self.bytes()?;
@@ -62,21 +54,21 @@ impl<'a> Cursor<'a> {
         requires { self.old.place ≡ 2 }
         ensures { Leads result self.new (order verb (texts self.old)) }
     {
-        Ok(match verb {
-            Verb::House => Command::House(self.bytes()?),
-            Verb::Shift => Command::Shift(self.byte()?),
-            Verb::Begin => Command::Begin,
-            Verb::Lay => Command::Lay(self.tour_cable()?),
-            Verb::Lift => Command::Lift(self.number(u16::MAX)?),
-            Verb::Close => Command::Close,
-            Verb::Reopen => Command::Reopen,
-            Verb::Mark => Command::Mark(self.number(u16::MAX)?),
-            Verb::Strength => Command::Strength(self.devices()?),
-            Verb::Group => Command::Group(self.devices()?),
-            Verb::Run => Command::Run(self.yardstick()?, self.devices()?),
-            Verb::Cut => Command::Cut(self.devices()?),
-            Verb::Judge => Command::Judge(self.claim()?),
-        })
+        match verb {
+            Verb::House => self.bytes().map(Command::House),
+            Verb::Shift => self.byte().map(Command::Shift),
+            Verb::Begin => Ok(Command::Begin),
+            Verb::Lay => self.tour_cable().map(Command::Lay),
+            Verb::Lift => self.number(u16::MAX).map(Command::Lift),
+            Verb::Close => Ok(Command::Close),
+            Verb::Reopen => Ok(Command::Reopen),
+            Verb::Mark => self.number(u16::MAX).map(Command::Mark),
+            Verb::Strength => self.devices().map(Command::Strength),
+            Verb::Group => self.devices().map(Command::Group),
+            Verb::Run => Ok(Command::Run(self.yardstick()?, self.devices()?)),
+            Verb::Cut => self.devices().map(Command::Cut),
+            Verb::Judge => self.claim().map(Command::Judge),
+        }
     }
 
     /// The command that the words of a line give.

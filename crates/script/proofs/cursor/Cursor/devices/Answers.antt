@@ -20,12 +20,15 @@ loop-self-preserved c =
       c.in_ok-device.ensures.1 ∙ line,
     )
 
-pub returns-in_err-device-clause-read : goal.returns-in_err-device-clause-read
-returns-in_err-device-clause-read c =
+pub returns-in_err-device : goal.returns-in_err-device
+returns-in_err-device c =
     let ws = texts c.args.self.now in
     let at = c.loop-self.self.place in
     let line : texts c.loop-self.self ≡ ws = c.loop-self.invariant.1 in
-    let within : at ≤ length (texts c.loop-self.self) = search rules in
-    stops_through same vec_items _ _ _ _ c.from_residual.ensures.1
-    (λ m e. stop_read ws c.args.self.now.place at _ c.loop-self.invariant.0 c.loop-self.self.counted (subst (λ l. at ≤ length l) line within) m (subst (λ l. read_at (number 255) l at ≡ Err m) line e))
-    c.in_err-device.ensures.0
+    let within : at ≤ length (texts c.loop-self.self) = search rules in (
+      stops_through same vec_items _ _ _ _ c.from_residual.ensures.1
+          (λ m e. stop_read ws c.args.self.now.place at _ c.loop-self.invariant.0 c.loop-self.self.counted (subst (λ l. at ≤ length l) line within) m (subst (λ l. read_at (number 255) l at ≡ Err m) line e))
+          c.in_err-device.ensures.0,
+      c.in_err-device.ensures.1 ∙ line,
+      search rules,
+    )
