@@ -1,6 +1,6 @@
 -- The devices that the words of a line name, read one by one. Assumes nothing.
-use Rattle.std.proofs.Common.{◌≡◌, ℕ, ◌+◌, ◌-◌, ◌<◌, ◌≤◌, List, [], ◌∷◌, ◌++◌, length, get_or, drop, Ok, Err, Result, sym, refl, ap, ◌∙◌, append_assoc, append-nil, arith}
-use Rattle.std.proofs.lemmas.List.{drop_more, drop_all}
+use Rattle.std.proofs.Common.{◌≡◌, ℕ, ◌+◌, ◌-◌, ◌<◌, ◌≤◌, List, [], ◌∷◌, ◌++◌, length, get_or, drop, Ok, Err, Result, sym, refl, ap, ◌∙◌, append_assoc, arith}
+use Rattle.std.proofs.lemmas.List.{drop_more}
 use Rattle.std.proofs.lemmas.Option.{slice_get-get_or}
 use Rattle.script.specs.declared.mistake.Mistake.{Mistake}
 use Rattle.script.specs.Numerals.{number}
@@ -10,10 +10,6 @@ use Rattle.script.specs.Arguments.{given, present, blamed, word_at, read_at, dev
 abbrev pub after : List ℕ → Result (List ℕ) Mistake → Result (List ℕ) Mistake
 after xs s = given s (λ ds. Ok (xs ++ ds))
 
-after_none : (s : Result (List ℕ) Mistake) → after [] s ≡ s
-after_none (Ok ds) = refl
-after_none (Err m) = refl
-
 after_one : (xs : List ℕ) (d : ℕ) (s : Result (List ℕ) Mistake) → after xs (given s (λ ds. Ok (d ∷ ds))) ≡ after (xs ++ (d ∷ [])) s
 after_one xs d (Ok ds) = ap Ok (sym (append_assoc xs (d ∷ []) ds))
 after_one xs d (Err m) = refl
@@ -22,14 +18,7 @@ after_one xs d (Err m) = refl
 abbrev pub ReadTo : List (List ℕ) → ℕ → ℕ → List ℕ → Type 0
 ReadTo ws place n xs = after xs (devices_from ws n) ≡ devices_from ws place
 
-pub none_read : (ws : List (List ℕ)) (n : ℕ) (xs : List ℕ) → xs ≡ [] → ReadTo ws n n xs
-none_read ws n xs none = ap (λ l. after l (devices_from ws n)) none ∙ after_none (devices_from ws n)
-
 module _ (ws : List (List ℕ)) (place n : ℕ) (xs : List ℕ) (h : ReadTo ws place n xs) where
-  pub all_read : length ws < n → devices_from ws place ≡ Ok xs
-  all_read over =
-      sym h ∙ ap (λ l. after xs (devices n l)) (drop_all (n - 1) ws (omega arith)) ∙ ap Ok (append-nil xs)
-
   module _ (some : 0 < n) (within : n ≤ length ws) where
     next_device : devices_from ws place ≡ after xs (given (read_at (number 255) ws n) (λ d. given (devices_from ws (n + 1)) (λ ds. Ok (d ∷ ds))))
     next_device =

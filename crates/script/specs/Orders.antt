@@ -1,17 +1,17 @@
 -- The commands, and how each is read from the words of its line. Assumes nothing.
---   Order           a command, with lists where the code has vectors
---   order_of c      the order that a command of the code is
---   wide_at ws n    the word n as a number of at most 65535
---   byte_at ws n    the word n as a number of at most 255
---   run_at ws n     the words from n as a run: a medium and a length
---   cable_at ws n   the words from n as a cable: its two ends and its run
+--   Order                a command, with lists where the code has vectors
+--   claimed c            the order to judge that claim
+--   order_of c           the order that a command of the code is
+--   wide_at ws n         the word n as a number of at most 65535
+--   byte_at ws n         the word n as a number of at most 255
+--   run_at ws n          the words from n as a run: its medium and its length
+--   cable_at ws n        the words from n as a cable: its two ends and its run
 --   tour_cable_at ws n   the words from n as a cable of a tour: the tag of its drum and the cable
---   claimed c       the order to judge that claim
---   claim_at ws n   the words from n as a claim: a strength, a cut sheet and devices to the end
---   ending ws n o   the order o, unless a word n is left over
---   order verb ws   the order of a line of the words ws, the first of which names the verb
---   order_on ws     the order of a line of the words ws
---   silent ws       there is no word, or the first begins with `#`
+--   claim_at ws n        the words from n to the last as a claim: a strength, a cut sheet and devices
+--   ending ws n o        the order o, unless a word n is left over
+--   order verb ws        the order of a line of the words ws, the first of which names the verb
+--   order_on ws          the order of a line of the words ws
+--   silent ws            there is no word, or the first begins with `#`
 use Rattle.std.specs.Prelude.{ℕ, ◌+◌, Bool, true, List, [], ◌∷◌, Ok, vec_items, Result, ◌==◌, slice_index}
 use Rattle.script.specs.declared.command.Claim.{Claim}
 use Rattle.script.specs.declared.command.Command.{Command}

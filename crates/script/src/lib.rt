@@ -21,7 +21,8 @@ use command::Command;
 use cursor::Cursor;
 use stop::Stop;
 
-/// The command that a line gives, none where it says nothing, or the first mistake in it.
+/// The command that a line gives, or none where it says nothing. What stops it is the first mistake in the line, or a lack of
+/// memory, of which nothing more is said.
 pub fn parse(heap: Global, line: &str) -> Result<Option<Command>, Stop>
     ensures { Reads told result (reading line.now) }
 {

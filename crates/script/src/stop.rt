@@ -14,7 +14,7 @@ pub enum Stop {
 }
 
 /// The fault of a word, counted from 1.
-pub fn blame(word: usize, fault: Fault) -> Stop
+pub(crate) fn blame(word: usize, fault: Fault) -> Stop
     ensures { result ≡ stop_at word fault }
 {
     Stop::Mistake(Mistake { word, fault })
