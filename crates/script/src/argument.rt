@@ -5,7 +5,7 @@ ghost use Rattle.script.specs.declared.mistake.Fault.{Fault};
 ghost use Rattle.script.specs.Words.{text};
 ghost use Rattle.script.specs.Numerals.{number, hex};
 ghost use Rattle.script.specs.Arguments.{Reads, same, word_at, read_at, faulted, verb, medium, yardstick, devices_from, end_at};
-ghost use Rattle.script.specs.Cursors.{texts, Takes, TakesRest};
+ghost use Rattle.script.specs.Cursors.{texts, Takes, TakesRest, Follows};
 
 use crate::command::Yardstick;
 use crate::cursor::Cursor;
@@ -38,7 +38,7 @@ impl<'a> Cursor<'a> {
     /// The next word, as `parse` reads it.
     fn read<T, F: FnOnce(&str) -> Result<T, Fault>>(&mut self, parse: F) -> Result<T, Stop>
         requires { F.IsAlwaysCallable parse }
-        ensures { (says : List ℕ → Result T Fault) → ((w : List ℕ) (r : Result T Fault) → FnOnceReturnsAt F.FnOnce parse w r → r ≡ says w) → Takes 1 same result self.old self.new (read_at says) }
+        ensures { (says : List ℕ → Result T Fault) → Follows (FnOnceReturnsAt F.FnOnce parse) says → Takes 1 same result self.old self.new (read_at says) }
     {
         let place = self.place;
         let word = self.word()?;
@@ -64,10 +64,12 @@ impl<'a> Cursor<'a> {
     fn named<T: FromStr>(&mut self, fault: Fault) -> Result<T, Stop>
     where
         T::Err: Drop,
-        ensures { (says : List ℕ → Result T T.Err) → ((w : List ℕ) (r : Result T T.Err) → T.from_str_gives w r → r ≡ says w) → Takes 1 same result self.old self.new (read_at (λ w. faulted fault (says w))) }
+        ensures { (says : List ℕ → Result T T.Err) → Follows T.from_str_gives says → Takes 1 same result self.old self.new (read_at (λ w. faulted fault (says w))) }
     {
         self.read(|word| word.parse().map_err(|_| fault))
     }
+
+    // `named` leaves the rule for the word to its caller, so each kind of word has a method whose clause names the rule.
 
     /// The next word, as a command's name.
     pub fn verb(&mut self) -> Result<Verb, Stop>
@@ -107,6 +109,7 @@ impl<'a> Cursor<'a> {
     pub fn devices(&mut self) -> Result<Vec<u8>, Stop>
         ensures { TakesRest vec_items result self.old self.new devices_from }
     {
+        // A loop with `?`: of a `collect` into a `Result` a proof does not know when it fails.
         let mut devices = Vec::new(self.heap);
         while self.has_word() {
             let device = self.byte()?;

@@ -19,8 +19,10 @@ pub fn number_in(word: &str, limit: u16) -> Result<u16, Fault>
     if !is_numeral(word) {
         return Err(Fault::NotANumber);
     }
-    let value = word.parse::<u16>().ok().filter(|value| *value <= limit);
-    value.ok_or(Fault::NumberTooLarge)
+    word.parse::<u16>()
+        .ok()
+        .filter(|value| *value <= limit)
+        .ok_or(Fault::NumberTooLarge)
 }
 
 /// The byte that two hexadecimal digits write, the high one first.
@@ -39,6 +41,7 @@ pub fn bytes_in(heap: Global, word: &str) -> Result<Option<Vec<u8>>, AllocError>
     if word.is_empty() {
         return Ok(None);
     }
+    // A loop that may end early: of a `collect` into an `Option` a proof does not know when it fails.
     let mut found = Vec::new(heap);
     let mut rest = word.as_bytes();
     while let [high, low, after @ ..] = rest {

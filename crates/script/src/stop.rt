@@ -28,6 +28,7 @@ impl From<AllocError> for Stop {
     }
 }
 
+// A push that fails hands its value back with this error, and `?` lets the value go.
 impl<T: Drop> From<AllocFailed<T>> for Stop {
     ghost from_gives = { λ _ r. r ≡ Memory };
 
