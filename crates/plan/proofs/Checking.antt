@@ -1,8 +1,9 @@
 -- How the tests of a question follow each other, from the list's on. Assumes nothing.
-use Rattle.std.proofs.Common.{◌≡◌, ℕ, ◌<◌, ◌≤◌, Bool, true, false, not, eqb, ltb, List, [], ◌∷◌, length, IsErrAnd, Ok, Err, Result, sym, refl, ap, ◌∙◌, subst, ⊎_elim, arith}
+use Rattle.std.proofs.Common.{◌≡◌, ℕ, ◌<◌, ◌≤◌, Bool, true, false, not, eqb, ltb, List, [], ◌∷◌, length, is_some, Some, None, IsErrAnd, MatchOption, Ok, Err, Option, Result, sym, refl, ap, ◌∙◌, subst, ⊎_elim, arith}
 use mathlib.Core.Path.{fun_ext}
+use Rattle.std.specs.Option.{ok_or}
 use Rattle.std.proofs.lemmas.Result.{err_from_is_err_and}
-use Rattle.std.proofs.lemmas.Bool.{cases_Bool, lt-ltb, le-ltb}
+use Rattle.std.proofs.lemmas.Bool.{false≢true, cases_Bool, lt-ltb, le-ltb}
 use Rattle.network.specs.Figures.{several}
 use Rattle.network.specs.Lists.{member}
 use Rattle.network.specs.Marks.{OfDevices}
@@ -20,6 +21,20 @@ use Rattle.plan.specs.Tests.{outside, list_then, list_check, buffer_check, run_c
 
 abbrev Answer : Type 0
 Answer = Result (Unit {0}) Refusal
+
+-- a test of whether there is an answer, and what the answer says
+pub some_says : {X : Type 0} (A : Type 0) (B : X → Type 0) (o : Option X) → is_some o ≡ true → MatchOption o A B → (x : X) × B x
+some_says A B (Some x) e p = (x, p)
+some_says A B None e p = absurd (false≢true e)
+
+pub none_says : {X : Type 0} (A : Type 0) (B : X → Type 0) (o : Option X) → is_some o ≡ false → MatchOption o A B → A
+none_says A B (Some x) e p = absurd (false≢true (sym e))
+none_says A B None e p = p
+
+-- two things that are said of one answer
+pub both_say : {X A C Z : Type 0} (B D : X → Type 0) (o : Option X) → MatchOption o A B → MatchOption o C D → (A → C → Z) → ((x : X) → B x → D x → Z) → Z
+both_say B D (Some x) p q none some = some x p q
+both_say B D None p q none some = none p q
 
 -- three tests in a row, and then x
 abbrev thrice : (a b c : Bool) → Answer → Answer
@@ -62,6 +77,28 @@ module _ (l : List ℕ) (x : Answer) where
   refused_gives P e r exit bad =
       let p = err_from_is_err_and r exit in
       subst (Gives (list_then l x) P) (sym (p.1 ∙ ap Err p.2)) (list_refused e bad)
+
+-- what the exit of a `?` past the list returns
+pub gives_err : {A : Type 0} (P : A → Type 0) (check : Answer) (e : Refusal) (r : Result A Refusal) → IsErrAnd r (λ y. y ≡ e) → check ≡ Err e → Gives check P r
+gives_err P check e r exit is =
+    let p = err_from_is_err_and r exit in
+    subst (Gives check P) (sym (p.1 ∙ ap Err p.2)) is
+
+-- a refusal by `ok_or`, and a pass
+module _ {X : Type 0} (A : Type 0) (B : X → Type 0) (o : Option X) (said : MatchOption o A B) (e : Refusal) where
+  pub refused_or : (f : Refusal) → ok_or o e ≡ Err f → A × (e ≡ f)
+  refused_or f is = go o said is
+    where
+      go : (p : Option X) → MatchOption p A B → ok_or p e ≡ Err f → A × (e ≡ f)
+      go (Some x) m is = let z : ◌≡◌ {A = ℕ} 0 1 = cc in absurd (omega arith)
+      go None m is = (m, cc)
+
+  pub passed_or : (x : X) → ok_or o e ≡ Ok x → B x
+  passed_or x is = go o said is
+    where
+      go : (p : Option X) → MatchOption p A B → ok_or p e ≡ Ok x → B x
+      go (Some y) m is = let q : y ≡ x = cc in subst B q m
+      go None m is = let z : ◌≡◌ {A = ℕ} 0 1 = cc in absurd (omega arith)
 
 pub refused_writes : {A : Type 0} (e : Refusal) (r : Result A Refusal) (bs : List ℕ) → IsErrAnd r (λ y. y ≡ e) → Writes bs r bs
 refused_writes e r bs exit = subst (λ q. Writes bs q bs) (sym (err_from_is_err_and r exit).1) refl

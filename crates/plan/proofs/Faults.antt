@@ -1,8 +1,10 @@
 -- Judging: counting what leads out of a part, telling whether it is lone, and what the faults say of the sheet. Assumes nothing.
-use Rattle.std.proofs.Common.{◌≡◌, ℕ, ◌+◌, ◌<◌, ◌≤◌, Bool, true, false, List, [], ◌∷◌, length, get_or, take, count_by, sym, refl, ap, ◌∙◌, subst, inl, inr, ⊎_elim, arith}
+use Rattle.std.proofs.Common.{◌≡◌, ℕ, zero, suc, ◌+◌, ◌<◌, ◌≤◌, Bool, true, false, ◌⊎◌, eqb, leb, List, [], ◌∷◌, length, get_or, take, count_by, sym, refl, ap, ◌∙◌, subst, inl, inr, ⊎_elim, add-one, arith, eq-eqb, ne_eqb}
+use borrow.Author.Tests.{lt-leb}
 use Rattle.std.proofs.lemmas.List.{take_all}
 use Rattle.std.proofs.lemmas.Option.{slice_get-get_or}
-use Rattle.std.proofs.lemmas.Bool.{cases_lt}
+use Rattle.std.proofs.lemmas.List.Sums.{count_by_more_yes, count_by_more_no}
+use Rattle.std.proofs.lemmas.Bool.{cases_lt, cases_eq, le-leb}
 use Rattle.network.specs.Cables.{LawfulCable, Lawful}
 use Rattle.network.specs.Sheets.{leads_up, leading, Lacks, Lone, GoodSheet}
 use Rattle.network.specs.declared.cable.Cable.{Cable}
@@ -16,28 +18,69 @@ use Rattle.cuts.specs.Members.{set_of}
 use Rattle.cuts.specs.declared.devices.Devices.{Devices}
 use Rattle.plan.specs.Rows.{cables_in}
 use Rattle.cutsheets.specs.Listing.{Names}
+use Rattle.forest.specs.Labels.{Tells}
 use Rattle.plan.specs.Judging.{Small, Sound, Faulty}
 
 -- whether a device below n is in part p; if so there is one
-abbrev pub Seen : (part : ℕ → ℕ) → (p n : ℕ) → Bool → Type 0
+abbrev Seen : (part : ℕ → ℕ) → (p n : ℕ) → Bool → Type 0
 Seen part p n false = (k : ℕ) → k < n → part k ≡ p → ⊥
 Seen part p n true = (x : ℕ) × (x < n) × (part x ≡ p) × ((k : ℕ) → k < n → part k ≡ p → k ≡ x)
 
 module _ (part : ℕ → ℕ) (p n : ℕ) where
-  pub seen_other : (b : Bool) → (part n ≡ p → ⊥) → Seen part p n b → Seen part p (n + 1) b
+  seen_other : (b : Bool) → (part n ≡ p → ⊥) → Seen part p n b → Seen part p (n + 1) b
   seen_other false ne s = λ k h e. ⊎_elim (λ lt. s k lt e) (λ le. let q : n ≡ k = omega arith in ne (ap part q ∙ e)) (cases_lt k n)
   seen_other true ne s =
       (s.0, omega (arith, s.1), s.2, λ k h e. ⊎_elim (λ lt. s.3 k lt e) (λ le. let q : n ≡ k = omega arith in absurd (ne (ap part q ∙ e))) (cases_lt k n))
 
-  pub seen_first : part n ≡ p → Seen part p n false → Seen part p (n + 1) true
+  seen_first : part n ≡ p → Seen part p n false → Seen part p (n + 1) true
   seen_first e s = (n, omega arith, e, λ k h f. ⊎_elim (λ lt. absurd (s k lt f)) (λ le. omega arith) (cases_lt k n))
 
-  pub seen_twice : n < 128 → part n ≡ p → Seen part p n true → Lone part p → ⊥
+  seen_twice : n < 128 → part n ≡ p → Seen part p n true → Lone part p → ⊥
   seen_twice h e s lone = omega (arith, s.1, lone s.0 n (omega (arith, s.1)) h s.2 e)
 
-  pub seen_all : 128 ≤ n → (b : Bool) → Seen part p n b → Lone part p
+  seen_all : 128 ≤ n → (b : Bool) → Seen part p n b → Lone part p
   seen_all h false s = λ x y lx ly ex ey. absurd (s x (omega arith) ex)
   seen_all h true s = λ x y lx ly ex ey. s.3 x (omega arith) ex ∙ sym (s.3 y (omega arith) ey)
+
+-- how many of the first n devices are in the part, and what that says of them
+abbrev Counted : (part : ℕ → ℕ) → (p n c : ℕ) → Type 0
+Counted part p n c = ((c ≡ 0) × Seen part p n false) ⊎ (((c ≡ 1) × Seen part p n true) ⊎ ((2 ≤ c) × (Lone part p → ⊥)))
+
+module _ (parts : List ℕ) (p : ℕ) (long : length parts ≡ 128) where
+  abbrev of : ℕ → ℕ
+  of d = get_or parts d 0
+
+  abbrev count : ℕ → ℕ
+  count n = count_by (λ x. eqb x p) (take n parts)
+
+  one_other : (n c : ℕ) → (of n ≡ p → ⊥) → Counted of p n c → Counted of p (n + 1) c
+  one_other n c ne (inl h) = inl (h.0, seen_other of p n false ne h.1)
+  one_other n c ne (inr (inl h)) = inr (inl (h.0, seen_other of p n true ne h.1))
+  one_other n c ne (inr (inr h)) = inr (inr h)
+
+  one_more : (n c : ℕ) → n < 128 → of n ≡ p → Counted of p n c → Counted of p (n + 1) (c + 1)
+  one_more n c low e (inl h) = inr (inl (omega (arith, h.0), seen_first of p n e h.1))
+  one_more n c low e (inr (inl h)) = inr (inr (omega (arith, h.0), seen_twice of p n low e h.1))
+  one_more n c low e (inr (inr h)) = inr (inr (omega (arith, h.0), h.1))
+
+  counted : (n : ℕ) → n ≤ 128 → Counted of p n (count n)
+  counted zero h = inl (refl, λ k low. absurd (omega arith))
+  counted (suc n) h =
+      let low : n < length parts = omega (arith, long) in
+      let was = counted n (omega arith) in
+      subst (λ m. Counted of p m (count m)) (add-one n) (⊎_elim
+      (λ e. subst (Counted of p (n + 1)) (sym (count_by_more_yes (λ x. eqb x p) parts n 0 low (eq-eqb (of n) p e))) (one_more n (count n) (omega arith) e was))
+      (λ e. subst (Counted of p (n + 1)) (sym (count_by_more_no (λ x. eqb x p) parts n 0 low (ne_eqb (of n) p e))) (one_other n (count n) e was))
+      (cases_eq (of n) p))
+
+  lone_says : (c : ℕ) → Counted of p 128 c → Tells (leb c 1) (Lone of p)
+  lone_says c (inl h) = subst (λ b. Tells b (Lone of p)) (sym (le-leb c 1 (omega (arith, h.0)))) (seen_all of p 128 (omega arith) false h.1)
+  lone_says c (inr (inl h)) = subst (λ b. Tells b (Lone of p)) (sym (le-leb c 1 (omega (arith, h.0)))) (seen_all of p 128 (omega arith) true h.1)
+  lone_says c (inr (inr h)) = subst (λ b. Tells b (Lone of p)) (sym (lt-leb c 1 (omega (arith, h.0)))) h.1
+
+  -- a part has one device at most exactly where no more than one is counted
+  pub lone_count : (c : ℕ) → c ≡ count_by (λ x. eqb x p) parts → Tells (leb c 1) (Lone of p)
+  lone_count c e = lone_says c (subst (Counted of p 128) (ap (count_by (λ x. eqb x p)) (take_all 128 parts (omega (arith, long))) ∙ sym e) (counted 128 (omega arith)))
 
 -- what leads out of a part, counted over rows
 leading_rows : (part : ℕ → ℕ) (p : ℕ) (rows : List MarkedCable) → count_by (λ r. leads_up part p r.cable) rows ≡ leading (cables_in rows) part p
@@ -49,8 +92,10 @@ leading_rows part p (r ∷ rows) = omega (
   count_cons (leads_up part p) r.cable (cables_in rows),
 )
 
-pub leading_all : (part : ℕ → ℕ) (p n i : ℕ) (rows : List MarkedCable) → length rows ≤ i → n ≡ count_by (λ r. leads_up part p r.cable) (take i rows) → n ≡ leading (cables_in rows) part p
-leading_all part p n i rows h e = e ∙ ap (count_by (λ r. leads_up part p r.cable)) (take_all i rows h) ∙ leading_rows part p rows
+pub leading_all : (part : ℕ → ℕ) (p n i : ℕ) (rows all : List MarkedCable) → rows ≡ all → length rows ≤ i → n ≡ count_by (λ r. leads_up part p r.cable) (take i rows)
+    → n ≡ leading (cables_in all) part p
+leading_all part p n i rows all is h e =
+    e ∙ ap (count_by (λ r. leads_up part p r.cable)) (take_all i rows h) ∙ leading_rows part p rows ∙ ap (λ rs. leading (cables_in rs) part p) is
 
 -- what stands past the last row
 abbrev pub unused : MarkedCable

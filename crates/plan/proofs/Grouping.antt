@@ -1,5 +1,5 @@
 -- The group of a list from the marks in a table, and as it is told. Assumes nothing.
-use Rattle.std.proofs.Common.{◌≡◌, ℕ, ◌<◌, Bool, true, cond, leb, ◌↔◌, List, sym, ap, ◌∙◌, subst}
+use Rattle.std.proofs.Common.{◌≡◌, ℕ, zero, suc, ◌<◌, Bool, true, cond, leb, ◌↔◌, List, Some, sym, refl, ap, ◌∙◌, subst, arith}
 use Rattle.network.specs.Chains.{Linked}
 use Rattle.network.specs.Lists.{ListStrength, Group}
 use Rattle.network.specs.Marks.{Strong}
@@ -16,8 +16,7 @@ use Rattle.forest.proofs.Reaches.{linked_low, reaching_ranged}
 use Rattle.plan.specs.Grading.{mark_at}
 use Rattle.plan.specs.Bytes.{Written}
 use Rattle.plan.specs.Questions.{marks, size, GroupOf}
-use Rattle.plan.specs.Rows.{cables_in}
-use Rattle.plan.specs.Tables.{rows_of}
+use Rattle.plan.specs.Tables.{rows_of, table_cables}
 use Rattle.cutsheets.specs.Listing.{Names}
 use Rattle.plan.specs.declared.table.Table.{Table}
 use Rattle.plan.proofs.Bytes.{marks_written}
@@ -25,7 +24,7 @@ use Rattle.plan.proofs.Strengths.{table_marks}
 
 module _ (t : Table) (k x : ℕ) where
   abbrev cs : List Cable
-  cs = cables_in (rows_of t)
+  cs = table_cables t
 
   abbrev mark : ℕ → ℕ
   mark = mark_at (rows_of t)
@@ -49,6 +48,11 @@ module _ (t : Table) (k x : ℕ) where
         (λ i. linked_map (λ c p. (strong_reaches cs mark k c).0 p) ((is d (held_low r d i)).0 i)),
         (λ links. let far = reaching links in (is d (low d far)).1 far),
       )
+
+-- a strength that is told is not 0
+pub above_none : (k : ℕ) → (Some k ≡ Some 0 → ⊥) → 0 < k
+above_none zero n = absurd (n refl)
+above_none (suc k) n = omega arith
 
 -- the group with the bytes that mark it
 pub group_told : (cs : List Cable) (l bs bs' : List ℕ) (k n : ℕ) (s : Devices) → 0 < k → ListStrength cs l k → Group cs l k (set_of s)

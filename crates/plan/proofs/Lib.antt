@@ -1,5 +1,5 @@
 pub mod Tours
-pub mod Gathering
+pub mod Gathered
 pub mod Listing
 pub mod Checking
 pub mod Faults

@@ -1,6 +1,7 @@
 -- The strength of a list from the marks in a table: for several devices, and for one. Assumes nothing.
 use Rattle.std.proofs.Common.{◌≡◌, ℕ, suc, Bool, true, false, leb, List, [], ◌∷◌, Some, None, Option, sym, refl, ap, ◌∙◌, subst, ⊎_elim, arith}
 use Rattle.std.specs.List.{slice_get}
+use Rattle.std.specs.Option.{unwrap_or}
 use Rattle.std.proofs.lemmas.Bool.{cases_Bool, cases_eq, leb-true}
 use Rattle.network.specs.Lists.{member, ends, ListStrength}
 use Rattle.network.specs.Marks.{Marks}
@@ -20,11 +21,11 @@ use Rattle.forest.proofs.Severals.{set_two}
 use Rattle.plan.specs.Grading.{mark_of, mark_at}
 use Rattle.plan.specs.Rows.{cables_in}
 use Rattle.plan.specs.Strengths.{Highest, Joining}
-use Rattle.plan.specs.Tables.{rows_of}
+use Rattle.plan.specs.Tables.{rows_of, table_cables}
 use Rattle.cutsheets.specs.Listing.{Names}
 use Rattle.plan.specs.declared.table.Table.{Table}
 use Rattle.plan.proofs.Checking.{named}
-use Rattle.plan.proofs.Gathering.{row_mark}
+use Rattle.plan.proofs.Gathered.{row_mark}
 
 -- the row that a cable stands in
 stands_in : (rows : List MarkedCable) (i : ℕ) (c : Cable) (o : Option MarkedCable) → slice_get rows i ≡ o → mapped (λ x. x.cable) o ≡ Some c
@@ -32,7 +33,7 @@ stands_in : (rows : List MarkedCable) (i : ℕ) (c : Cable) (o : Option MarkedCa
 stands_in rows i c (Some r) e p = (r, e, cc)
 stands_in rows i c None e p = let z : ◌≡◌ {A = ℕ} 0 1 = cc in absurd (omega arith)
 
-pub table_marks : (t : Table) → Marks (cables_in (rows_of t)) (mark_at (rows_of t))
+pub table_marks : (t : Table) → Marks (table_cables t) (mark_at (rows_of t))
 table_marks t i c st =
     let rows = rows_of t in
     let s = stands_in rows i c (slice_get rows i) refl (sym (nth_map (λ x. x.cable) rows i) ∙ st) in
@@ -40,17 +41,21 @@ table_marks t i c st =
     subst (λ k. ListStrength (cables_in rows) (ends c) k) (sym (ap mark_of s.1)) (subst (λ d. ListStrength (cables_in rows) (ends d) s.0.mark) s.2 m)
 
 module _ (cs : List Cable) (mark : ℕ → ℕ) (D : ℕ → Bool) where
-  pub poorest_joining : (k : ℕ) → Poorest (λ a b. leb b a) cs mark D (Some k) → Joining cs mark D k
+  poorest_joining : (k : ℕ) → Poorest (λ a b. leb b a) cs mark D (Some k) → Joining cs mark D k
   poorest_joining k (join, best) = (
     (λ pos x y ix iy. linked_map (λ c p. (strong_reaches cs mark k c).0 p) (join x y ix iy)),
     (λ more. omega (arith, leb-true (suc k) k (best (suc k) (λ x y ix iy. linked_map (λ c p. (strong_reaches cs mark (suc k) c).1 p) (more x y ix iy))))),
   )
 
-  pub none_joining : Poorest (λ a b. leb b a) cs mark D None → Joining cs mark D 0
+  none_joining : Poorest (λ a b. leb b a) cs mark D None → Joining cs mark D 0
   none_joining apart = (
     (λ pos. absurd (omega arith)),
     (λ more. apart (λ x y ix iy. linked_map (λ c p. (p.0, p.1)) (more x y ix iy))),
   )
+
+  pub joining_of : (o : Option ℕ) → Poorest (λ a b. leb b a) cs mark D o → Joining cs mark D (unwrap_or o 0)
+  joining_of (Some k) p = poorest_joining k p
+  joining_of None p = none_joining p
 
 -- the strength of a list is that of any other that names the same devices
 list_same : (cs : List Cable) (l m : List ℕ) (k : ℕ) → ((d : ℕ) → member l d ≡ member m d) → ListStrength cs l k → ListStrength cs m k
@@ -62,16 +67,16 @@ list_same cs l m k same s =
     }
 
 module _ (t : Table) (s : Devices) (l : List ℕ) (names : Names l (set_of s)) where
-  pub several_strength : (k : ℕ) → DeviceSet (set_of s) → Joining (cables_in (rows_of t)) (mark_at (rows_of t)) (set_of s) k → ListStrength (cables_in (rows_of t)) l k
+  pub several_strength : (k : ℕ) → DeviceSet (set_of s) → Joining (table_cables t) (mark_at (rows_of t)) (set_of s) k → ListStrength (table_cables t) l k
   several_strength k set joining =
-      let cs = cables_in (rows_of t) in
+      let cs = table_cables t in
       let mark = mark_at (rows_of t) in
       (several_joined cs mark (table_marks t) l (subst DeviceSet (named s l names) set) k).1 (subst (λ D. Joining cs mark D k) (named s l names) joining)
 
   -- a list that names one device only, as often as it may
-  pub lone_strength : (k x : ℕ) → (DeviceSet (set_of s) → ⊥) → set_of s x ≡ true → Highest (cables_in (rows_of t)) (mark_at (rows_of t)) x k → ListStrength (cables_in (rows_of t)) l k
+  pub lone_strength : (k x : ℕ) → (DeviceSet (set_of s) → ⊥) → set_of s x ≡ true → Highest (table_cables t) (mark_at (rows_of t)) x k → ListStrength (table_cables t) l k
   lone_strength k x lone ix highest =
-      list_same (cables_in (rows_of t)) (x ∷ []) l k same ((lone_touched (cables_in (rows_of t)) (mark_at (rows_of t)) (table_marks t) x (held_low s x ix) k).1 highest)
+      list_same (table_cables t) (x ∷ []) l k same ((lone_touched (table_cables t) (mark_at (rows_of t)) (table_marks t) x (held_low s x ix) k).1 highest)
     where
       other : (d : ℕ) → (x ≡ d → ⊥) → member l d ≡ false
       other d n = ⊎_elim (λ i. absurd (lone (set_two s x d ix (names d ∙ i) n))) (λ f. f) (cases_Bool (member l d))

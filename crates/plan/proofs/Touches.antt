@@ -1,6 +1,9 @@
 -- The highest mark of the cables at a device, row by row. Assumes nothing.
-use Rattle.std.proofs.Common.{◌≡◌, ℕ, ◌+◌, ◌<◌, ◌≤◌, Bool, true, false, cond, ◌&&◌, eqb, ltb, ◌⊎◌, List, length, Some, sym, ap, ◌∙◌, subst, inl, inr, ⊎_elim, arith}
-use Rattle.std.specs.List.{slice_get}
+use Rattle.std.proofs.Common.{◌≡◌, ℕ, zero, suc, ◌+◌, ◌<◌, ◌≤◌, Bool, true, false, cond, ◌&&◌, eqb, ltb, ◌⊎◌, List, length, get_or, take, Some, sym, refl, ap, ◌∙◌, subst, inl, inr, ⊎_elim, add-one, arith}
+use Rattle.std.specs.List.{slice_get, fold}
+use Rattle.std.proofs.lemmas.List.{take_all, length-map}
+use Rattle.std.proofs.lemmas.List.Sums.{fold_more}
+use Rattle.std.proofs.lemmas.Option.{slice_get-get_or}
 use Rattle.std.proofs.lemmas.Bool.{cases_Bool, cases_lt, both_ways, and_parts, and_from, or_cases, or_left, or_right, eqb-true, eq-eqb, ltb-true, lt-ltb}
 use Rattle.network.specs.Marks.{Strong, Touched}
 use Rattle.network.specs.declared.cable.Cable.{Cable}
@@ -9,6 +12,7 @@ use Rattle.network.proofs.Places.{place_low, one_place}
 use Rattle.plan.specs.Grading.{mark_of, mark_at}
 use Rattle.plan.specs.Rows.{cables_in}
 use Rattle.plan.specs.Strengths.{touches, Highest}
+use Rattle.plan.proofs.Faults.{unused}
 use Rattle.plan.proofs.Reading.{cable_of_row}
 
 abbrev At : Cable → ℕ → Type 0
@@ -27,15 +31,15 @@ touches_says c x t = ⊎_elim
     (or_cases (eqb c.a x) (eqb c.b x) t)
 
 -- k is the highest mark of the cables at x among the first n
-pub record Sofar (rows : List MarkedCable) (x n k : ℕ) : Type 0 where
+record Sofar (rows : List MarkedCable) (x n k : ℕ) : Type 0 where
   pub found : 0 < k → Touched (Strong (cables_in rows) (mark_at rows) k) x
   pub above : (i : ℕ) (c : Cable) → i < n → slice_get (cables_in rows) i ≡ Some c → touches c x ≡ true → mark_at rows i ≤ k
 
 module _ (rows : List MarkedCable) (x : ℕ) where
-  pub sofar_none : Sofar rows x 0 0
+  sofar_none : Sofar rows x 0 0
   sofar_none = record { found = λ h. absurd (omega arith); above = λ i c h st t. absurd (omega arith) }
 
-  pub sofar_more : (n k : ℕ) (r : MarkedCable) → Some r ≡ slice_get rows n → Sofar rows x n k
+  sofar_more : (n k : ℕ) (r : MarkedCable) → Some r ≡ slice_get rows n → Sofar rows x n k
       → (j : ℕ) → j ≡ cond (touches r.cable x && ltb k r.mark) r.mark k → Sofar rows x (n + 1) j
   sofar_more n k r e was j is = ⊎_elim taken left (cases_Bool test)
     where
@@ -78,8 +82,23 @@ module _ (rows : List MarkedCable) (x : ℕ) where
                 (cases_lt i n);
           })
 
-  pub sofar_all : (n k : ℕ) → length (cables_in rows) ≤ n → Sofar rows x n k → Highest (cables_in rows) (mark_at rows) x k
-  sofar_all n k h was = (
-    was.found,
-    (λ (c, (i, st, le), at). omega (arith, was.above i c (omega (arith, place_low (cables_in rows) i c st)) st (touches_from c x at))),
-  )
+  abbrev pub higher : ℕ → MarkedCable → ℕ
+  higher k r = cond (touches r.cable x && ltb k r.mark) r.mark k
+
+  sofar_fold : (n : ℕ) → n ≤ length rows → Sofar rows x n (fold higher 0 (take n rows))
+  sofar_fold zero h = sofar_none
+  sofar_fold (suc n) h =
+      let low : n < length rows = omega arith in
+      let row = get_or rows n unused in
+      let k = fold higher 0 (take n rows) in
+      let more = sofar_more n k row (sym (slice_get-get_or rows n unused low)) (sofar_fold n (omega arith)) (higher k row) refl in
+      subst (λ m. Sofar rows x m (fold higher 0 (take m rows))) (add-one n) (subst (Sofar rows x (n + 1)) (sym (fold_more higher 0 rows n unused low)) more)
+
+  -- the highest mark, by a fold over the rows
+  pub fold_highest : (k : ℕ) → k ≡ fold higher 0 rows → Highest (cables_in rows) (mark_at rows) x k
+  fold_highest k is =
+      let n = length rows in
+      let was : Sofar rows x n k = subst (Sofar rows x n) (ap (fold higher 0) (take_all n rows (omega arith)) ∙ sym is) (sofar_fold n (omega arith)) in (
+        was.found,
+        (λ (c, (i, st, le), at). omega (arith, was.above i c (omega (arith, place_low (cables_in rows) i c st, length-map rows (λ r. r.cable))) st (touches_from c x at))),
+      )

@@ -3,18 +3,16 @@
 --   mark_at rows i  the mark of the row at the place i
 --   run_of o        the run of a cable, if it is there; else one of no length
 --   run_at cs i     the run of the cable at the place i
---   count_is t      a table has as many cables as it says
 --   few_cables t    a table has 512 cables at most
-use Rattle.std.specs.Prelude.{◌≡◌, ℕ, ◌≤◌, List, length, Some, None, Option}
+use Rattle.std.specs.Prelude.{ℕ, ◌≤◌, List, length, Some, None, Option}
 use Rattle.std.proofs.Common.{arith}
 use Rattle.std.specs.List.{slice_get}
-use Rattle.std.proofs.lemmas.List.{length-map, length-take-le}
+use Rattle.std.proofs.lemmas.List.{length-map}
 use Rattle.network.specs.declared.cable.Cable.{Cable}
 use Rattle.network.specs.declared.cable.Run.{Run}
 use Rattle.network.specs.declared.cable.Medium.TheVariants.{Copper}
 use Rattle.network.specs.declared.cable.MarkedCable.{MarkedCable}
-use Rattle.plan.specs.Rows.{cables_in}
-use Rattle.plan.specs.Tables.{rows_of}
+use Rattle.plan.specs.Tables.{rows_of, table_cables}
 use Rattle.plan.specs.declared.table.Table.{Table}
 
 abbrev pub mark_of : Option MarkedCable → ℕ
@@ -31,8 +29,5 @@ run_of None = record { medium = Copper; length = 0 }
 abbrev pub run_at : List Cable → ℕ → Run
 run_at cs i = run_of (slice_get cs i)
 
-pub count_is : (t : Table) → t.count ≡ length (cables_in (rows_of t))
-count_is t = omega (arith, length-map (rows_of t) (λ r. r.cable), length-take-le t.count t.rows (omega (arith, t.few, t.size)))
-
-pub few_cables : (t : Table) → length (cables_in (rows_of t)) ≤ 512
-few_cables t = omega (arith, count_is t, t.few)
+pub few_cables : (t : Table) → length (table_cables t) ≤ 512
+few_cables t = omega (arith, length-map (rows_of t) (λ r. r.cable), t.few)

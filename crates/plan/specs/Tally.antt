@@ -6,7 +6,7 @@
 --   lay_after t tag c        the tally after it: the cable appended, or as it was
 --   lift_answer t tag        the new count, or that the tag is missing
 --   lift_after t tag         the tally after it: without the cable of the tag, the rest in their order, or as it was
-use Rattle.std.specs.Prelude.{ℕ, suc, ◌+◌, cond, not, ◌||◌, List, [], ◌∷◌, ◌++◌, map, length, take, is_some, Some, None, Ok, Err, Option, Result, ◌==◌, nat_le}
+use Rattle.std.specs.Prelude.{ℕ, ◌+◌, cond, not, ◌||◌, List, [], ◌∷◌, ◌++◌, map, length, is_some, Ok, Err, Option, Result, position, ◌==◌, nat_le}
 use Rattle.network.specs.Cables.{above, fit_run}
 use Rattle.network.specs.Refusals.{refuse}
 use Rattle.network.specs.declared.cable.Cable.{Cable}
@@ -16,18 +16,13 @@ use Rattle.network.specs.declared.cable.TourCable.{TourCable}
 use Rattle.plan.specs.declared.tour.Tour.{Tour}
 
 abbrev pub laid : Tour → List TourCable
-laid t = take t.count t.rows
+laid t = t.rows.items
 
 abbrev pub tour_cables : List TourCable → List Cable
 tour_cables t = map (λ x. x.cable) t
 
-abbrev pub later : Option ℕ → Option ℕ
-later (Some i) = Some (suc i)
-later None = None
-
 abbrev pub place : List TourCable → ℕ → Option ℕ
-place [] tag = None
-place (x ∷ xs) tag = cond (x.tag == tag) (Some 0) (later (place xs tag))
+place t tag = position (λ x. x.tag == tag) t
 
 abbrev pub lay_answer : List TourCable → ℕ → Cable → Result ℕ Refusal
 lay_answer t tag c =

@@ -9,7 +9,8 @@
 --   Gives check P r      the answer r is a refusal just if the check is, with the same cause; else P holds of what is answered
 --   Past check P r       the answer r is the check's refusal; past the check, P holds of it
 --   Writes bs r bs'      what a call that writes 128 bytes leaves in its buffer: later bytes stay, and all of them where it is refused
-use Rattle.std.specs.Prelude.{◌≡◌, ℕ, Bool, false, not, ◌||◌, List, [], ◌∷◌, length, drop, Ok, Err, Result, ◌==◌, nat_lt}
+use Rattle.std.specs.Prelude.{◌≡◌, ℕ, Bool, not, ◌||◌, List, length, drop, Ok, Err, Result, ◌==◌, nat_lt}
+use Rattle.std.specs.List.{list_any}
 use Rattle.network.specs.Cables.{above}
 use Rattle.network.specs.Figures.{several}
 use Rattle.network.specs.Lists.{member}
@@ -18,8 +19,7 @@ use Rattle.network.specs.declared.refusal.Refusal.{Refusal}
 use Rattle.network.specs.declared.refusal.Refusal.TheVariants.{DeviceOutOfRange, ListEmpty, ListTooLong, BufferTooShort, TooFewDevices, BadCutSheet}
 
 abbrev pub outside : List ℕ → Bool
-outside [] = false
-outside (b ∷ bs) = above b || outside bs
+outside bs = list_any above bs
 
 abbrev pub list_then : {A : Type 0} → List ℕ → Result A Refusal → Result A Refusal
 list_then l x =

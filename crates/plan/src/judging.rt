@@ -1,86 +1,76 @@
 // How a cut sheet is judged.
-ghost use Rattle.std.specs.Prelude.{◌≡◌, ℕ, ◌<◌, ◌≤◌, true, List, length, ◌≢◌};
+ghost use Rattle.std.specs.Prelude.{◌≡◌, ℕ, ◌<◌, true, false, List, MatchResult, ◌≢◌};
 ghost use Rattle.cuts.specs.Members.{set_of};
-ghost use Rattle.network.specs.Cables.{LawfulCable, Lawful};
+ghost use Rattle.network.specs.Cables.{LawfulCable};
 ghost use Rattle.network.specs.Sheets.{leads_up, Lone};
+ghost use Rattle.network.specs.declared.refusal.Refusal.TheVariants.{BadCutSheet};
 ghost use Rattle.forest.specs.Labels.{Tells};
-ghost use Rattle.plan.specs.Rows.{cables_in};
 ghost use Rattle.plan.specs.Tests.{ill_formed};
+ghost use Rattle.plan.specs.Tables.{table_cables};
 ghost use Rattle.cutsheets.specs.Listing.{Names};
 ghost use Rattle.plan.specs.Judging.{part_of, Small, FirstFault};
 
 use crate::list::any_out_of_range;
+use crate::table::Table;
 use cuts::devices::Devices;
-use network::cable::{Cable, MarkedCable};
+use network::cable::Cable;
 use network::refusal::Refusal;
 
-/// Whether bytes are no cut sheet: there are not 128 of them, or one is above 127.
-pub(crate) fn is_ill_formed(sheet: &[u8]) -> bool
-    ensures { result ≡ ill_formed sheet.now }
+/// The parts that a cut sheet tells. Refused where it is not 128 bytes, or one of them is above 127.
+pub(crate) fn parts_told(sheet: &[u8]) -> Result<&[u8; 128], Refusal>
+    ensures { MatchResult result (λ parts. (ill_formed sheet.now ≡ false) × (parts.now ≡ sheet.now)) (λ e. (ill_formed sheet.now ≡ true) × (e ≡ BadCutSheet)) }
 {
-    sheet.len() != 128 || any_out_of_range(sheet)
+    let parts = <&[u8; 128]>::try_from(sheet).map_err(|_| Refusal::BadCutSheet)?;
+    if any_out_of_range(sheet) {
+        return Err(Refusal::BadCutSheet);
+    }
+    Ok(parts)
 }
 
 /// Whether the cable joins the part and a part with a higher number.
-fn leads_out(cable: Cable, sheet: &[u8], part: u8) -> bool
-    requires { (length sheet.now ≡ 128) × (LawfulCable cable) }
-    ensures { result ≡ leads_up (part_of sheet.now) part cable }
+fn leads_out(cable: Cable, parts: &[u8; 128], part: u8) -> bool
+    requires { LawfulCable cable }
+    ensures { result ≡ leads_up (part_of parts.now) part cable }
 {
-    let a = sheet[cable.a as usize];
-    let b = sheet[cable.b as usize];
+    let a = parts[cable.a as usize];
+    let b = parts[cable.b as usize];
     (a == part && part < b) || (b == part && part < a)
 }
 
 /// Whether a listed device is in another part.
-fn lacks(devices: &Devices, sheet: &[u8], part: u8) -> bool
-    requires { length sheet.now ≡ 128 }
-    ensures { Tells result ((d : ℕ) × (set_of devices.now d ≡ true) × (part_of sheet.now d ≢ part)) }
+fn lacks(devices: &Devices, parts: &[u8; 128], part: u8) -> bool
+    ensures { Tells result ((d : ℕ) × (set_of devices.now d ≡ true) × (part_of parts.now d ≢ part)) }
 {
-    for d in 0..128u8 {
-        if devices.has(d) && sheet[d as usize] != part {
-            return true;
-        }
-    }
-    false
+    devices
+        .flags()
+        .iter()
+        .zip(parts)
+        .any(|(listed, of)| *listed && *of != part)
 }
 
 /// Whether the part has one device at most.
-fn is_lone(sheet: &[u8], part: u8) -> bool
-    requires { length sheet.now ≡ 128 }
-    ensures { Tells result (Lone (part_of sheet.now) part) }
+fn is_lone(parts: &[u8; 128], part: u8) -> bool
+    ensures { Tells result (Lone (part_of parts.now) part) }
 {
-    let mut seen = false;
-    for d in 0..128usize {
-        if sheet[d] == part {
-            if seen {
-                return false;
-            }
-            seen = true;
-        }
-    }
-    true
+    parts.iter().filter(|of| **of == part).count() <= 1
 }
 
 /// Whether the part lacks a listed device, or has one device at most.
-fn is_small(devices: &Devices, sheet: &[u8], part: u8) -> bool
-    requires { length sheet.now ≡ 128 }
-    ensures { (l : List ℕ) → Names l (set_of devices.now) → Tells result (Small l (part_of sheet.now) part) }
+fn is_small(devices: &Devices, parts: &[u8; 128], part: u8) -> bool
+    ensures { (l : List ℕ) → Names l (set_of devices.now) → Tells result (Small l (part_of parts.now) part) }
 {
-    lacks(devices, sheet, part) || is_lone(sheet, part)
+    lacks(devices, parts, part) || is_lone(parts, part)
 }
 
 /// The fault of the lowest part that has one: it leads out by more than `k` cables, or else it is several devices and holds the whole
 /// list. It costs one look at each cable for each part.
 pub(crate) fn first_fault(
-    rows: &[MarkedCable],
+    table: &Table,
     devices: &Devices,
     k: u16,
-    sheet: &[u8],
+    parts: &[u8; 128],
 ) -> Option<Refusal>
-    requires few { length rows.now ≤ 512 }
-    requires lawful { Lawful (cables_in rows.now) }
-    requires long { length sheet.now ≡ 128 }
-    ensures { (l : List ℕ) → Names l (set_of devices.now) → FirstFault (cables_in rows.now) l k (part_of sheet.now) result }
+    ensures { (l : List ℕ) → Names l (set_of devices.now) → FirstFault (table_cables table.now) l k (part_of parts.now) result }
 {
     let mut part: u8 = 0;
     loop {
@@ -88,15 +78,15 @@ pub(crate) fn first_fault(
             break None;
         }
         let mut leading: u16 = 0;
-        for row in rows {
-            if leads_out(row.cable, sheet, part) {
+        for row in table.rows() {
+            if leads_out(row.cable, parts, part) {
                 leading += 1;
             }
         }
         if leading > k {
             break Some(Refusal::PartLeadsOut);
         }
-        if !is_small(devices, sheet, part) {
+        if !is_small(devices, parts, part) {
             break Some(Refusal::PartHoldsList);
         }
         part += 1;

@@ -1,13 +1,14 @@
 // A plan: a house's cables and the tour's, open while the tour is laid, closed while it is questioned.
 //   plan, states, state     its two states, and the calls that lead from one to the other
 //   tour, tally             the tour's cables, and how they are laid and lifted
-//   table, rows, marking    the cables of a closed plan with their marks, and how closing makes them
+//   table, rows             the cables of a closed plan with their marks
+//   gathering, marking      how closing makes them: rigs from houses and records, and their marks
 //   list, questions         lists of devices: strength, group and run, from what strength, group and grading find
-//   sheets                  cut sheets: cut and judge, from cutting and judging
+//   sheets                  cut sheets: cut and judge, from gathering and judging
 #![tactic(auto)]
 
 mod buffer;
-mod cutting;
+mod gathering;
 mod grading;
 mod group;
 mod judging;

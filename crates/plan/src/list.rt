@@ -12,12 +12,7 @@ use network::refusal::Refusal;
 pub(crate) fn any_out_of_range(bytes: &[u8]) -> bool
     ensures { result ≡ outside bytes.now }
 {
-    for byte in bytes {
-        if out_of_range(*byte) {
-            return true;
-        }
-    }
-    false
+    bytes.iter().any(|byte| out_of_range(*byte))
 }
 
 /// The devices that a list names. Refused where it is empty, has more than 128 entries, or names a number above 127.

@@ -2,8 +2,7 @@
 ghost use Rattle.network.specs.Sets.{DeviceSet};
 ghost use Rattle.cuts.specs.Members.{set_of};
 ghost use Rattle.plan.specs.Questions.{StrengthAnswer, GroupAnswer, RunIs, RunAnswer};
-ghost use Rattle.plan.specs.Rows.{cables_in};
-ghost use Rattle.plan.specs.Tables.{rows_of, closed_cables};
+ghost use Rattle.plan.specs.Tables.{table_cables, closed_cables};
 
 use crate::grading::Ruled;
 use crate::group::{count_of, group_of, write_bytes};
@@ -22,7 +21,7 @@ use network::refusal::Refusal;
 // The best grade whose cables join the devices; none where all cables together do not join them.
 fn poorest_run<Y: Yardstick>(table: &Table, yardstick: &Y, devices: &Devices) -> Option<Y::Grade>
     requires { DeviceSet (set_of devices.now) }
-    ensures { RunIs Y.Grade.Grade.over Y.Yardstick.graded (cables_in (rows_of table.now)) (set_of devices.now) result }
+    ensures { RunIs Y.Grade.Grade.over Y.Yardstick.graded (table_cables table.now) (set_of devices.now) result }
 {
     poorest(&Ruled { table, yardstick }, devices)
 }
@@ -35,11 +34,7 @@ impl<H: House> Closed<H> {
         ensures { StrengthAnswer (closed_cables self.now) list.now result }
     {
         let devices = listed(list)?;
-        let strength = strength_of(&self.table, &devices);
-        if strength == 0 {
-            return Ok(None);
-        }
-        Ok(Some(strength))
+        Ok(strength_of(&self.table, &devices))
     }
 
     /// The strength of the list and the size of its group: the largest set of that strength that contains the list. Byte d
@@ -54,11 +49,10 @@ impl<H: House> Closed<H> {
         if buffer.len() < 128 {
             return Err(Refusal::BufferTooShort);
         }
-        let strength = strength_of(&self.table, &devices);
-        if strength == 0 {
+        let Some(strength) = strength_of(&self.table, &devices) else {
             write_bytes(&Devices::none(), buffer);
             return Ok(None);
-        }
+        };
         let group = group_of(&self.table, &devices, strength);
         write_bytes(&group, buffer);
         Ok(Some((strength, count_of(&group))))
@@ -72,9 +66,7 @@ impl<H: House> Closed<H> {
         ensures { RunAnswer Y.Grade.Grade.over Y.Yardstick.graded (closed_cables self.now) list.now result }
     {
         let devices = listed(list)?;
-        let Some(_) = one_of_several(&devices) else {
-            return Err(Refusal::TooFewDevices);
-        };
+        one_of_several(&devices).ok_or(Refusal::TooFewDevices)?;
         Ok(poorest_run(&self.table, yardstick, &devices))
     }
 }

@@ -4,8 +4,7 @@ ghost use Rattle.plan.specs.Questions.{CutAnswer};
 ghost use Rattle.plan.specs.Judging.{Judges, OwnAccepted};
 
 use crate::buffer::write_first;
-use crate::cutting::rig_of;
-use crate::judging::{first_fault, is_ill_formed};
+use crate::judging::{first_fault, parts_told};
 use crate::list::listed;
 use crate::plan::Closed;
 use cuts::adjacency::MaxAdjacency;
@@ -26,7 +25,7 @@ impl<H: House> Closed<H> {
         if buffer.len() < 128 {
             return Err(Refusal::BufferTooShort);
         }
-        let sheet = own_sheet(&MaxAdjacency, &rig_of(self.table.rows()), &devices);
+        let sheet = own_sheet(&MaxAdjacency, &self.table.rig(), &devices);
         write_first(buffer, &sheet.parts);
         Ok(sheet.strength)
     }
@@ -39,10 +38,8 @@ impl<H: House> Closed<H> {
         ensures { Judges (closed_cables self.now) list.now k sheet.now result }
     {
         let devices = listed(list)?;
-        if is_ill_formed(sheet) {
-            return Err(Refusal::BadCutSheet);
-        }
-        match first_fault(self.table.rows(), &devices, k, sheet) {
+        let parts = parts_told(sheet)?;
+        match first_fault(&self.table, &devices, k, parts) {
             Some(fault) => Err(fault),
             None => Ok(()),
         }

@@ -62,7 +62,7 @@ impl<H: House> Closed<H> {
     pub fn count(&self) -> u16
         ensures { result ≡ length (closed_cables self.now) }
     {
-        self.table.count
+        self.table.len()
     }
 
     /// The cable at a place with its mark, absent past the last. The mark is the strength of the list of the cable's two ends.
@@ -70,10 +70,6 @@ impl<H: House> Closed<H> {
         ensures answer { result ≡ marked_at (closed_cables self.now) place }
         ensures mark { MatchOption result (length (closed_cables self.now) ≤ place) (λ m. (slice_get (closed_cables self.now) place ≡ Some m.cable) × Mark (closed_cables self.now) m.cable m.mark) }
     {
-        if place < self.table.count {
-            Some(self.table.rows[place as usize])
-        } else {
-            None
-        }
+        self.table.row(place)
     }
 }

@@ -2,32 +2,15 @@ ghost use Rattle.std.specs.Prelude.{◌≡◌, []};
 ghost use Rattle.plan.specs.Tally.{laid, place, lay_answer, lay_after, lift_answer, lift_after};
 
 use crate::tour::Tour;
-use network::cable::{Cable, Medium, Run, TourCable};
+use arrayvec::ArrayVec;
+use network::cable::{Cable, TourCable};
 use network::refusal::Refusal;
-
-// What an unused row holds.
-const UNUSED: TourCable = TourCable {
-    tag: 0,
-    cable: Cable {
-        a: 0,
-        b: 1,
-        run: Run {
-            medium: Medium::Copper,
-            length: 1,
-        },
-    },
-};
 
 // The place of the cable with the tag.
 fn find(rows: &[TourCable], tag: u16) -> Option<usize>
     ensures { result ≡ place rows.now tag }
 {
-    for (i, row) in rows.iter().enumerate() {
-        if row.tag == tag {
-            return Some(i);
-        }
-    }
-    None
+    rows.iter().position(|row| row.tag == tag)
 }
 
 impl Tour {
@@ -35,8 +18,7 @@ impl Tour {
         ensures { laid result ≡ [] }
     {
         Tour {
-            rows: [UNUSED; 256],
-            count: 0,
+            rows: ArrayVec::new(),
         }
     }
 
@@ -45,28 +27,22 @@ impl Tour {
         ensures after { laid self.new ≡ lay_after (laid self.old) tag cable }
     {
         cable.check()?;
-        let n = self.count as usize;
-        if let Some(_) = find(&self.rows[0..n], tag) {
+        if find(self.rows.as_slice(), tag).is_some() {
             return Err(Refusal::TagTaken);
         }
-        if n >= 256 {
+        if self.rows.is_full() {
             return Err(Refusal::TourFull);
         }
-        self.rows[n] = TourCable { tag, cable };
-        self.count += 1;
-        Ok(self.count)
+        self.rows.push(TourCable { tag, cable });
+        Ok(self.rows.len() as u16)
     }
 
     pub(crate) fn lift(&mut self, tag: u16) -> Result<u16, Refusal>
         ensures answer { result ≡ lift_answer (laid self.old) tag }
         ensures after { laid self.new ≡ lift_after (laid self.old) tag }
     {
-        let n = self.count as usize;
-        let Some(i) = find(&self.rows[0..n], tag) else {
-            return Err(Refusal::TagMissing);
-        };
-        self.rows.copy_within(i + 1..n, i);
-        self.count -= 1;
-        Ok(self.count)
+        let place = find(self.rows.as_slice(), tag).ok_or(Refusal::TagMissing)?;
+        self.rows.remove(place);
+        Ok(self.rows.len() as u16)
     }
 }

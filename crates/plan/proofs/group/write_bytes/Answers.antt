@@ -1,13 +1,11 @@
+use Rattle.std.proofs.Common.{cond, get_or, rules, false, ap, ◌∙◌}
 use Rattle.cuts.specs.Members.{set_of}
-use Rattle.plan.proofs.Bytes.{written_none, written_more, written_all}
+use Rattle.cuts.proofs.Mapping.{mapped}
+use Rattle.plan.proofs.Bytes.{set_written}
 use Rattle.plan.proofs.group.write_bytes.Goals as goal
 
-pub loop-d-init : goal.loop-d-init
-loop-d-init c = written_none (set_of c.args.devices.now) c.args.buffer.now
-
-pub loop-d-preserved : goal.loop-d-preserved
-loop-d-preserved c =
-    written_more (set_of c.args.devices.now) c.args.buffer.now c.loop-d.d c.loop-d.buffer c.byte_of.result c.requires c.loop-d-test.true c.loop-d.invariant c.byte_of.ensures
-
 pub returns : goal.returns
-returns c = written_all (set_of c.args.devices.now) c.args.buffer.now c.loop-d.d c.loop-d.buffer c.loop-d-test.false c.loop-d.invariant
+returns c =
+    let w = c.write_first.ensures in
+    set_written (set_of c.args.devices.now) c.args.buffer.now c.write_first.new.buffer c.map.result c.write_first.auto.buffer w.first w.later
+    (λ d low. mapped _ (λ b. cond b 1 0) _ (λ x y q k. search (rules, k)) _ _ 128 c.map.ensures.items d false 0 low ∙ ap (λ flags. cond (get_or flags d false) 1 0) c.flags.ensures)

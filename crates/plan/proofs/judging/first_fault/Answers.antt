@@ -1,32 +1,29 @@
 use Rattle.std.proofs.Common.{sym, refl, ◌∙◌, inl, inr, arith}
 use Rattle.std.proofs.lemmas.List.Sums.{count_by_more_yes, count_by_more_no}
 use Rattle.network.specs.Sheets.{leads_up}
-use Rattle.plan.specs.Rows.{cables_in}
 use Rattle.plan.specs.Judging.{part_of, Sound}
+use Rattle.plan.specs.Tables.{rows_of, table_cables}
 use Rattle.plan.proofs.Faults.{unused, row_lawful, leading_all, below_next}
 use Rattle.plan.proofs.judging.first_fault.Goals.{then-leads_out, else-leads_out}
 use Rattle.plan.proofs.judging.first_fault.Goals as goal
 
 pub leads_out-requires : goal.leads_out-requires
-leads_out-requires c = (c.requires.long, row_lawful c.args.rows.now c.requires.lawful c.loop-row.row-index c.loop-row-test.true)
+leads_out-requires c = row_lawful c.rows-row-items.result.now c.rows-row-items.ensures.lawful c.loop-row.row-index c.loop-row-test.true
 
 pub loop-row-preserved : goal.loop-row-preserved
 loop-row-preserved c =
-    let rows = c.args.rows.now in
+    let rows = c.rows-row-items.result.now in
     let i = c.loop-row.row-index in
     elim c.if-leads_out.branch [
-      | then-leads_out w ↦ (w.leading-is ∙ omega (arith, c.loop-row.invariant.0, count_by_more_yes (λ r. leads_up (part_of c.args.sheet.now) c.loop-part.part r.cable) rows i unused c.loop-row-test.true (sym w.if-leads_out.ensures)), omega (arith, w.leading-is, c.loop-row.invariant.1))
-      | else-leads_out w ↦ (w.leading-is ∙ omega (arith, c.loop-row.invariant.0, count_by_more_no (λ r. leads_up (part_of c.args.sheet.now) c.loop-part.part r.cable) rows i unused c.loop-row-test.true (sym w.if-leads_out.ensures)), omega (arith, w.leading-is, c.loop-row.invariant.1))
+      | then-leads_out w ↦ (w.leading-is ∙ omega (arith, c.loop-row.invariant.0, count_by_more_yes (λ r. leads_up (part_of c.args.parts.now) c.loop-part.part r.cable) rows i unused c.loop-row-test.true (sym w.if-leads_out.ensures)), omega (arith, w.leading-is, c.loop-row.invariant.1))
+      | else-leads_out w ↦ (w.leading-is ∙ omega (arith, c.loop-row.invariant.0, count_by_more_no (λ r. leads_up (part_of c.args.parts.now) c.loop-part.part r.cable) rows i unused c.loop-row-test.true (sym w.if-leads_out.ensures)), omega (arith, w.leading-is, c.loop-row.invariant.1))
     ]
 
 pub loop-part-preserved : goal.loop-part-preserved
 loop-part-preserved c =
-    let rows = c.args.rows.now in
-    let part = part_of c.args.sheet.now in
-    let p = c.loop-part.part in
-    let n = leading_all part p c.loop-row.leading c.loop-row.row-index rows c.loop-row-test.false c.loop-row.invariant.0 in (
+    let n = leading_all (part_of c.args.parts.now) c.loop-part.part c.loop-row.leading c.loop-row.row-index c.rows-row-items.result.now (rows_of c.args.table.now) c.rows-row-items.ensures.rows c.loop-row-test.false c.loop-row.invariant.0 in (
       omega arith,
-      λ l names. below_next (Sound (cables_in rows) l c.args.k part) p (c.loop-part.invariant.1 l names) (omega (arith, n), c.if-not-is_small.ensures l names),
+      λ l names. below_next (Sound (table_cables c.args.table.now) l c.args.k (part_of c.args.parts.now)) c.loop-part.part (c.loop-part.invariant.1 l names) (omega (arith, n), c.if-not-is_small.ensures l names),
     )
 
 pub returns-then-part-gt127 : goal.returns-then-part-gt127
@@ -34,10 +31,10 @@ returns-then-part-gt127 c = λ l names p h. c.loop-part.invariant.1 l names p (o
 
 pub returns-then-leading-k : goal.returns-then-leading-k
 returns-then-leading-k c =
-    let n = leading_all (part_of c.args.sheet.now) c.loop-part.part c.loop-row.leading c.loop-row.row-index c.args.rows.now c.loop-row-test.false c.loop-row.invariant.0 in
+    let n = leading_all (part_of c.args.parts.now) c.loop-part.part c.loop-row.leading c.loop-row.row-index c.rows-row-items.result.now (rows_of c.args.table.now) c.rows-row-items.ensures.rows c.loop-row-test.false c.loop-row.invariant.0 in
     λ l names. (c.loop-part.part, (omega arith, c.loop-part.invariant.1 l names, inl (refl, omega (arith, n))))
 
 pub returns-then-not-is_small : goal.returns-then-not-is_small
 returns-then-not-is_small c =
-    let n = leading_all (part_of c.args.sheet.now) c.loop-part.part c.loop-row.leading c.loop-row.row-index c.args.rows.now c.loop-row-test.false c.loop-row.invariant.0 in
+    let n = leading_all (part_of c.args.parts.now) c.loop-part.part c.loop-row.leading c.loop-row.row-index c.rows-row-items.result.now (rows_of c.args.table.now) c.rows-row-items.ensures.rows c.loop-row-test.false c.loop-row.invariant.0 in
     λ l names. (c.loop-part.part, (omega arith, c.loop-part.invariant.1 l names, inr (refl, omega (arith, n), c.if-not-is_small.ensures l names)))

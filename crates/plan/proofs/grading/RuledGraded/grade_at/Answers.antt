@@ -15,4 +15,4 @@ pub returns : goal.returns
 returns g c =
     let s = c.args.self.now in
     let graded = g.Y.Yardstick.graded in
-    ap Some c.grade.ensures ∙ sym (ap (λ o. if_laid o (graded (run_of o))) (cable_of_row (rows_of s.table.now) c.args.place c.in_ok-row.row c.in_ok-row.ensures))
+    ap Some c.grade.ensures ∙ sym (ap (λ o. if_laid o (graded (run_of o))) (cable_of_row (rows_of s.table.now) c.args.place c.in_ok-row.field-0 c.in_ok-row.ensures))

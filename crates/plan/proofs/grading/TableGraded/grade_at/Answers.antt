@@ -13,4 +13,4 @@ returns-in_err-row c =
 pub returns : goal.returns
 returns c =
     let e = c.in_ok-row.ensures in
-    sym (ap₂ (λ o r. if_laid o (mark_of r)) (cable_of_row (rows_of c.args.self.now) c.args.place c.in_ok-row.row e) (sym e))
+    sym (ap₂ (λ o r. if_laid o (mark_of r)) (cable_of_row (rows_of c.args.self.now) c.args.place c.in_ok-row.field-0 e) (sym e))

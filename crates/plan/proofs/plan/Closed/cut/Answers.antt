@@ -1,9 +1,8 @@
-use Rattle.std.proofs.Common.{ltb, length, Ok, refl, ap, ◌∙◌, subst}
+use Rattle.std.proofs.Common.{ltb, length, Ok, refl, subst}
 use Rattle.network.specs.declared.refusal.Refusal.TheVariants.{BufferTooShort}
 use Rattle.network.specs.Lists.{ListStrength}
 use Rattle.network.specs.Refusals.{refuse}
 use Rattle.network.specs.Sheets.{GoodSheet}
-use Rattle.plan.specs.Rows.{cables_in}
 use Rattle.plan.specs.Questions.{CutIs}
 use Rattle.plan.specs.Tables.{closed_cables}
 use Rattle.plan.specs.Judging.{part_of}
@@ -32,9 +31,6 @@ returns-then-buffer-lt128 g c = record {
   accepted = tt;
 }
 
-pub rig_of-requires : goal.rig_of-requires
-rig_of-requires g c = record { few = c.rows.ensures.few; lawful = c.rows.ensures.lawful }
-
 pub returns : goal.returns
 returns g c =
     let s = c.args.self.now in
@@ -42,7 +38,7 @@ returns g c =
     let fit = c.in_ok-devices.ensures in
     let sheet = c.own_sheet-sheet.result in
     let x = listed_one l fit.0 in
-    let same = c.rig_of.ensures ∙ ap cables_in c.rows.ensures.rows in
+    let same = c.rig.ensures in
     let strength = subst (λ cs. ListStrength cs l sheet.strength) same (c.own_sheet-sheet.ensures.strength l fit.1 x.0 x.1) in
     let good = subst (λ cs. GoodSheet cs l sheet.strength (part_of sheet.parts)) same (c.own_sheet-sheet.ensures.good l fit.1 x.0 x.1) in
     let devices = names_devices c.in_ok-devices.devices l fit.1 in

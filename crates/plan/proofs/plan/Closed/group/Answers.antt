@@ -1,11 +1,10 @@
-use Rattle.std.proofs.Common.{◌<◌, cond, ltb, length, Ok, refl, ap, ◌∙◌, subst, arith}
-use Rattle.network.specs.Lists.{ListStrength}
+use Rattle.std.proofs.Common.{cond, ltb, length, Ok, refl, ap, ◌∙◌}
 use Rattle.network.specs.Refusals.{refuse}
 use Rattle.network.specs.declared.refusal.Refusal.TheVariants.{BufferTooShort}
 use Rattle.plan.specs.Questions.{GroupIs}
 use Rattle.plan.specs.Tables.{closed_cables}
 use Rattle.plan.proofs.Checking.{listed_one, refused_gives, refused_writes, buffer_short, buffer_long}
-use Rattle.plan.proofs.Grouping.{group_told}
+use Rattle.plan.proofs.Grouping.{above_none, group_told}
 use Rattle.plan.proofs.plan.Closed.group.Goals as goal
 
 pub returns-in_err-devices : goal.returns-in_err-devices
@@ -26,17 +25,18 @@ returns-then-buffer-lt128 g c =
       buffer = refl;
     }
 
-pub returns-then-strength-eq0 : goal.returns-then-strength-eq0
-returns-then-strength-eq0 g c =
+pub returns-in_default : goal.returns-in_default
+returns-in_default g c =
     let l = c.args.list.now in
     let ok = c.in_ok-devices.ensures in
     let x = listed_one l ok.0 in
     let w = c.write_bytes.ensures in
+    let apart = c.in_default.ensures in
     record {
       answer = (
         buffer_long l (length c.args.buffer.now) ok.0 c.if-buffer-lt128.false,
         (
-          subst (ListStrength (closed_cables c.args.self.now) l) c.if-strength-eq0.true (c.strength_of-strength.ensures l x.0 ok.1 x.1),
+          (apart l x.0 ok.1 x.1).strength,
           λ d h. w.bytes d h ∙ ap (λ t. cond t 1 0) (c.none.ensures d),
         ),
       );
@@ -48,15 +48,15 @@ returns g c =
     let l = c.args.list.now in
     let ok = c.in_ok-devices.ensures in
     let x = listed_one l ok.0 in
-    let k = c.strength_of-strength.result in
-    let strength = c.strength_of-strength.ensures l x.0 ok.1 x.1 in
-    let pos : 0 < k = omega (arith, c.if-strength-eq0.false) in
+    let k = c.in-Some.strength in
+    let strong = c.in-Some.ensures l x.0 ok.1 x.1 in
+    let pos = above_none k strong.apart in
     let w = c.write_bytes-2.ensures in
     record {
       answer = (
         buffer_long l (length c.args.buffer.now) ok.0 c.if-buffer-lt128.false,
-        group_told (closed_cables c.args.self.now) l c.args.buffer.now c.write_bytes-2.new.buffer k c.count_of.result c.group_of-group.result pos strength
-            (c.group_of-group.ensures l x.0 ok.1 x.1 pos strength) w c.count_of.ensures,
+        group_told (closed_cables c.args.self.now) l c.args.buffer.now c.write_bytes-2.new.buffer k c.count_of.result c.group_of-group.result pos strong.strength
+            (c.group_of-group.ensures l x.0 ok.1 x.1 pos strong.strength) w c.count_of.ensures,
       );
       buffer = (w.long, w.later);
     }

@@ -1,7 +1,7 @@
 use Rattle.std.proofs.Common.{refl, subst}
 use Rattle.network.specs.Lists.{Mark}
 use Rattle.plan.specs.Tables.{rows_of}
-use Rattle.plan.proofs.Gathering.{row_mark}
+use Rattle.plan.proofs.Gathered.{row_mark}
 use Rattle.plan.proofs.plan.Open.close.Goals as goal
 
 pub returns : goal.returns

@@ -1,8 +1,10 @@
 -- Gathering the cables present and tabulating them with their marks. Assumes nothing.
-use Rattle.std.proofs.Common.{◌≡◌, ℕ, zero, suc, ◌+◌, ◌<◌, ◌≤◌, Bool, true, false, List, [], ◌∷◌, ◌++◌, length, get_or, take, set, Some, None, sym, refl, ap, ◌∙◌, ap₂, append_assoc, arith}
-use Rattle.std.proofs.lemmas.List.{take_all, take_more, take_more_set, map_more, get_or-take}
+use Rattle.std.proofs.Common.{◌≡◌, ℕ, zero, suc, ◌+◌, ◌<◌, ◌≤◌, Bool, true, false, List, [], ◌∷◌, ◌++◌, map, length, get_or, take, Some, None, Option, MatchOption, sym, refl, ap, ◌∙◌, ap₂, append_assoc, ⊎_elim, arith}
+use Rattle.std.proofs.lemmas.List.{take_more, map_more}
 use Rattle.std.proofs.lemmas.Option.{slice_get-get_or}
+use Rattle.std.proofs.lemmas.Bool.{cases_lt}
 use Rattle.std.specs.List.{slice_get}
+use Rattle.std.specs.Option.{option_map}
 use Rattle.network.specs.Cables.{LawfulCable, Lawful}
 use Rattle.network.specs.Lists.{Mark, ends}
 use Rattle.network.specs.Marks.{Marks}
@@ -15,10 +17,7 @@ use Rattle.network.proofs.Members.{ends_devices}
 use Rattle.network.proofs.Places.{blank}
 use Rattle.cuts.specs.Rigs.{Pushed}
 use Rattle.plan.specs.Rows.{cables_in, Marked, mark_rows}
-use Rattle.plan.specs.Tally.{laid, tour_cables}
-use Rattle.plan.specs.declared.tour.Tour.{Tour}
-use Rattle.network.specs.declared.cable.TourCable.{TourCable}
-use Rattle.plan.proofs.Tours.{length_laid}
+use Rattle.plan.specs.Tables.{with_mark, marked_at}
 
 -- a lawful cable is taken where there is room
 pub pushed : (old new : List Cable) (c : Cable) (r : Bool) → LawfulCable c → length old < 512 → Pushed old c new r → new ≡ old ++ c ∷ []
@@ -34,8 +33,12 @@ taken_more cs old new i c at h e f =
     found : get_or cs i blank ≡ c
     found = let n = slice_get-get_or cs i blank h in cc
 
-pub nth_some : (cs : List Cable) (i : ℕ) → slice_get cs i ≡ None → i < length cs → ⊥
-nth_some cs i e h = let n = slice_get-get_or cs i blank h in let z : ◌≡◌ {A = ℕ} 0 1 = cc in omega arith
+-- where none stands is past the last
+pub past_last : (cs : List Cable) (i : ℕ) → None ≡ slice_get cs i → length cs ≤ i
+past_last cs i e = ⊎_elim
+    (λ low. let n = slice_get-get_or cs i blank low in let z : ◌≡◌ {A = ℕ} 0 1 = cc in absurd (omega arith))
+    (λ past. past)
+    (cases_lt i (length cs))
 
 get_d_rows : (mark : ℕ → ℕ) (cs : List Cable) (i : ℕ) (d : MarkedCable) → i < length cs → get_or (mark_rows mark cs) i d ≡ record { cable = get_or cs i blank; mark = mark i }
 get_d_rows mark [] i d h = absurd (omega arith)
@@ -51,12 +54,13 @@ cables_rows mark [] = refl
 cables_rows mark (c ∷ cs) = ap (λ l. c ∷ l) (cables_rows (λ j. mark (suc j)) cs)
 
 -- one row more
-pub rows_more : (mark : ℕ → ℕ) (cs : List Cable) (rows : List MarkedCable) (i : ℕ) (r : MarkedCable) → i < length cs → i < length rows
-    → r ≡ record { cable = get_or cs i blank; mark = mark i } → take i rows ≡ take i (mark_rows mark cs) → take (i + 1) (set rows i r) ≡ take (i + 1) (mark_rows mark cs)
-rows_more mark cs rows i r h k e same =
-    take_more_set rows i r k
-    ∙ ap₂ (λ xs x. xs ++ x ∷ []) same (e ∙ sym (get_d_rows mark cs i r h))
-    ∙ sym (take_more (mark_rows mark cs) i r (omega (arith, length_rows mark cs)))
+pub rows_more : (mark : ℕ → ℕ) (cs : List Cable) (rows rows' : List MarkedCable) (i : ℕ) → i < length cs
+    → rows ≡ take i (mark_rows mark cs) → rows' ≡ rows ++ record { cable = get_or cs i blank; mark = mark i } ∷ [] → rows' ≡ take (i + 1) (mark_rows mark cs)
+rows_more mark cs rows rows' i h same more =
+    let row : MarkedCable = record { cable = get_or cs i blank; mark = mark i } in
+    more
+    ∙ ap₂ (λ xs x. xs ++ x ∷ []) same (sym (get_d_rows mark cs i row h))
+    ∙ sym (take_more (mark_rows mark cs) i row (omega (arith, length_rows mark cs)))
 
 nth_rows : (mark : ℕ → ℕ) (cs : List Cable) (i : ℕ) (r : MarkedCable) → slice_get (mark_rows mark cs) i ≡ Some r → (slice_get cs i ≡ Some r.cable) × (r.mark ≡ mark i)
 nth_rows mark [] i r e = let z : ◌≡◌ {A = ℕ} 0 1 = cc in absurd (omega arith)
@@ -77,28 +81,22 @@ row_mark rows lawful marked i r e =
     let at : slice_get (cables_in rows) i ≡ Some r.cable = nth_map (λ x. x.cable) rows i ∙ ap (mapped (λ x. x.cable)) e in
     (at, strength_from (cables_in rows) (ends r.cable) r.mark (ends_devices r.cable (lawful i r.cable at)) (marked i r e))
 
--- what stands past the end of a tour
-abbrev pub blank_row : TourCable
-blank_row = record { tag = 0; cable = blank }
+-- the row at a place as it is told
+pub row_told : (rows : List MarkedCable) → Lawful (cables_in rows) → Marked rows → (i : ℕ) (o : Option MarkedCable) → o ≡ slice_get rows i
+    → (o ≡ marked_at (cables_in rows) i) × MatchOption o (length (cables_in rows) ≤ i) (λ m. (slice_get (cables_in rows) i ≡ Some m.cable) × Mark (cables_in rows) m.cable m.mark)
+row_told rows lawful marked i (Some r) e =
+    let row = row_mark rows lawful marked i r (sym e) in (
+      sym (ap (option_map (with_mark (cables_in rows))) row.0 ∙ ap (λ m. Some (record { cable = r.cable; mark = m })) (sym (marked i r (sym e)))),
+      row,
+    )
+row_told rows lawful marked i None e =
+    let past = nth_map (λ x. x.cable) rows i ∙ ap (mapped (λ x. x.cable)) (sym e) in
+    (sym (ap (option_map (with_mark (cables_in rows))) past), past_last (cables_in rows) i (sym past))
 
-pub tour_lawful : (t : Tour) (i : ℕ) → i < t.count → LawfulCable (get_or t.rows i blank_row).cable
-tour_lawful t i h =
-    let at : slice_get (tour_cables (laid t)) i ≡ Some (get_or t.rows i blank_row).cable =
-    nth_map (λ x. x.cable) (laid t) i
-    ∙ ap (mapped (λ x. x.cable)) (slice_get-get_or (laid t) i blank_row (omega (arith, length_laid t)) ∙ ap Some (get_or-take t.count t.rows i blank_row h)) in
-    t.lawful i (get_or t.rows i blank_row).cable at
-
--- one tour cable more
-pub tour_more : (first old new : List Cable) (rows : List TourCable) (i : ℕ) → i < length rows → old ≡ first ++ tour_cables (take i rows)
-    → new ≡ old ++ (get_or rows i blank_row).cable ∷ [] → new ≡ first ++ tour_cables (take (i + 1) rows)
-tour_more first old new rows i h e f =
-    f ∙ ap (λ l. l ++ (get_or rows i blank_row).cable ∷ []) e
-    ∙ append_assoc first (tour_cables (take i rows)) ((get_or rows i blank_row).cable ∷ [])
-    ∙ ap (λ l. first ++ l) (sym (map_more (λ x. x.cable) rows i blank_row h))
-
--- a finished table's rows
-pub rows_all : (mark : ℕ → ℕ) (cs : List Cable) (rows : List MarkedCable) (i n : ℕ) → n ≡ length cs → length cs ≤ i → i ≤ length cs → take i rows ≡ take i (mark_rows mark cs)
-    → take n rows ≡ mark_rows mark cs
-rows_all mark cs rows i n e h k same =
-    let s : n ≡ i = omega arith in
-    ap (λ j. take j rows) s ∙ same ∙ take_all i (mark_rows mark cs) (omega (arith, length_rows mark cs))
+-- the cable of one record more
+pub one_more : {X : Type 0} (held : X → Cable) (first old new : List Cable) (records : List X) (i : ℕ) (d : X) → i < length records
+    → old ≡ first ++ map held (take i records) → new ≡ old ++ held (get_or records i d) ∷ [] → new ≡ first ++ map held (take (i + 1) records)
+one_more held first old new records i d h e f =
+    f ∙ ap (λ l. l ++ held (get_or records i d) ∷ []) e
+    ∙ append_assoc first (map held (take i records)) (held (get_or records i d) ∷ [])
+    ∙ ap (λ l. first ++ l) (sym (map_more held records i d h))
