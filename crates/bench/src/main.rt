@@ -2,8 +2,9 @@
 // `A B` for each: the first 256 are the house's, the others the tour's.
 #![tactic(auto)]
 
-use anyhow::anyhow;
+use anyhow::{Context, anyhow, ensure};
 use houses::house::House;
+use houses::misread::Misread;
 use houses::sheet::Sheet;
 use network::cable::{Medium, Run};
 use network::out_of_range;
@@ -31,25 +32,14 @@ struct Ends {
     b: u8,
 }
 
-/// What a closed plan tells: how many cables it has, and the sum of their marks.
-#[derive(Clone, Copy)]
-struct Told {
-    cables: u16,
-    marks: u64,
-}
-
 // The device that a word tells.
 fn device_in(word: &str) -> Option<u8> {
-    let device = word.parse::<u8>().ok()?;
-    if out_of_range(device) {
-        return None;
-    }
-    Some(device)
+    word.parse().ok().filter(|device| !out_of_range(*device))
 }
 
-// The two devices that a line tells.
+// The two devices that a line tells. An `Option`, and no `FromStr` with an error type: a line that is no pair tells no more.
 fn ends_in(line: &str) -> Option<Ends> {
-    let (a, b) = line.split_once(" ")?;
+    let (a, b) = line.split_once(' ')?;
     Some(Ends {
         a: device_in(a)?,
         b: device_in(b)?,
@@ -62,12 +52,8 @@ fn cables_told(rt: &HostRuntime) -> anyhow::Result<Vec<Ends>> {
     for line in BufReader::new(rt.alloc(), rt.stdin())?.lines(rt.alloc()) {
         let line = line?;
         let text = line.as_str();
-        let Some(ends) = ends_in(text) else {
-            return Err(anyhow!(format!(in rt.alloc(); "not two device numbers: {text}")?));
-        };
-        if cables.len() >= MOST {
-            return Err(anyhow!("more than 512 cables"));
-        }
+        let ends = ends_in(text).context(format_args!("not two device numbers: {text}"))?;
+        ensure!(cables.len() < MOST, "more than {MOST} cables");
         cables.push(ends)?;
     }
     Ok(cables)
@@ -75,60 +61,56 @@ fn cables_told(rt: &HostRuntime) -> anyhow::Result<Vec<Ends>> {
 
 // How often to close: what the first argument says, or once.
 fn closes_asked(rt: &HostRuntime) -> anyhow::Result<u32> {
-    let mut words = env::args(rt)?;
-    let _ = words.next();
-    let Some(word) = words.next() else {
+    let Some(word) = env::args(rt)?.nth(1) else {
         return Ok(1);
     };
-    match word.as_str().parse::<u32>() {
-        Ok(0) => Err(anyhow!("a plan is closed once at least")),
-        Ok(times) => Ok(times),
-        Err(_) => Err(anyhow!("the first argument is how often to close")),
-    }
+    let times = word
+        .as_str()
+        .parse()
+        .context("the first argument is how often to close")?;
+    ensure!(times > 0, "a plan is closed once at least");
+    Ok(times)
 }
 
-// The sheet of the house's cables: a record of one cable for each.
-fn sheet_of(heap: Global, cables: &[Ends]) -> Result<Vec<u8>, AllocError> {
+// The sheet of a house of these cables: for each a record of kind 1, one cable, and of medium 0, copper.
+fn sheet_of(heap: Global, house: &[Ends]) -> Result<Vec<u8>, AllocError> {
     let mut bytes = Vec::new(heap);
-    for ends in cables.iter().take(HOUSE) {
-        bytes.extend_from_slice(&[1, ends.a, ends.b, 0, 0, 10])?;
+    let [high, low] = RUN.length.to_be_bytes();
+    for ends in house {
+        bytes.extend_from_slice(&[1, ends.a, ends.b, 0, high, low])?;
     }
     Ok(bytes)
 }
 
-// Lays the cables after the house's, with tags from 0 on.
-fn lay_tour<H: House>(heap: Global, plan: &mut Open<H>, cables: &[Ends]) -> anyhow::Result<()> {
-    let mut tag: u16 = 0;
-    for ends in cables.iter().skip(HOUSE) {
-        if let Err(refusal) = plan.lay(tag, ends.a, ends.b, RUN) {
-            return Err(anyhow!(format!(in heap; "tour cable {tag} is refused: {refusal:?}")?));
-        }
-        tag = tag.saturating_add(1);
+// Lays the cables, with tags from 0 on.
+fn lay_tour<H: House>(plan: &mut Open<H>, tour: &[Ends]) -> anyhow::Result<()> {
+    for (tag, ends) in (0..u16::MAX).zip(tour) {
+        plan.lay(tag, ends.a, ends.b, RUN).map_err(|refusal| anyhow!(
+            "tour cable {tag} is refused: {refusal:?}"
+        ))?;
     }
     Ok(())
 }
 
-fn told_by<H: House>(closed: &Closed<H>) -> Told {
-    let cables = closed.count();
-    let mut marks: u64 = 0;
-    for place in 0..cables {
-        if let Some(marked) = closed.mark(place) {
-            marks = marks.saturating_add(u64::from(marked.mark));
-        }
-    }
-    Told { cables, marks }
-}
-
-// Closes the plan so many times, and reopens it between; what it tells after the last.
-fn close_often<H: House + Drop>(plan: Open<H>, times: u32) -> Told {
+// Closes the plan so many times, and reopens it between.
+fn close_often<H: House>(plan: Open<H>, times: u32) -> Closed<H> {
     let mut closed = plan.close();
     for _ in 1..times {
         closed = closed.reopen().close();
     }
-    told_by(&closed)
+    closed
 }
 
-// Begins a plan over the house, lays the tour, closes often and writes what it tells.
+// No `sum`, which asks for a bound on the whole: of what `filter_map` lets through, a proof knows none.
+fn sum_of_marks<H: House>(closed: &Closed<H>) -> u64 {
+    (0..closed.count())
+        .filter_map(|place| closed.mark(place))
+        .fold(0, |sum: u64, marked| {
+            sum.saturating_add(u64::from(marked.mark))
+        })
+}
+
+// Begins a plan over the house, lays the tour, closes often and writes how many cables there are and the sum of their marks.
 fn tell<H: House + Drop>(
     rt: &HostRuntime,
     house: H,
@@ -136,8 +118,10 @@ fn tell<H: House + Drop>(
     times: u32,
 ) -> anyhow::Result<()> {
     let mut plan = Open::begin(house);
-    lay_tour(rt.alloc(), &mut plan, tour)?;
-    let Told { cables, marks } = close_often(plan, times);
+    lay_tour(&mut plan, tour)?;
+    let closed = close_often(plan, times);
+    let cables = closed.count();
+    let marks = sum_of_marks(&closed);
     println!(rt; "cables {cables} closes {times} marks {marks}")?;
     Ok(())
 }
@@ -145,15 +129,13 @@ fn tell<H: House + Drop>(
 fn run(rt: &HostRuntime) -> anyhow::Result<()> {
     let times = closes_asked(rt)?;
     let cables = cables_told(rt)?;
-    let bytes = sheet_of(rt.alloc(), cables.as_slice())?;
+    let (house, tour) = cables.as_slice().split_at(cables.len().min(HOUSE));
+    let bytes = sheet_of(rt.alloc(), house)?;
     let mut sheet = Sheet::empty();
-    if let Err(misread) = sheet.load(bytes.as_slice()) {
-        let cause = misread.cause;
-        let place = misread.place;
-        println!(rt; "the sheet is refused at byte {place}: {cause:?}")?;
-        return Ok(());
-    }
-    tell(rt, sheet, cables.as_slice(), times)
+    sheet.load(bytes.as_slice()).map_err(|Misread { cause, place }| {
+        anyhow!("the sheet is refused at byte {place}: {cause:?}")
+    })?;
+    tell(rt, sheet, tour, times)
 }
 
 fn main(rt: HostRuntime) -> anyhow::Result<()> {
