@@ -8,44 +8,30 @@ fn crosses(cable: &Small, set: u8, side: u8) -> bool {
 }
 
 // How many cables of the set cross the split.
-fn crossings(rig: &[Small], set: u8, side: u8) -> u16 {
-    let mut count: u16 = 0;
-    for cable in rig {
-        if crosses(cable, set, side) {
-            count = count.saturating_add(1);
-        }
-    }
-    count
+fn crossings(rig: &[Small], set: u8, side: u8) -> usize {
+    rig.iter().filter(|cable| crosses(cable, set, side)).count()
 }
 
-// The fewest cables that cross a split of the set. The sides are all sets within it, but none and all of it.
-fn strength(rig: &[Small], set: u8) -> u16 {
-    let mut least = u16::MAX;
-    for side in 1..set {
-        if side & set == side {
-            least = least.min(crossings(rig, set, side));
-        }
-    }
-    least
+// The fewest cables that cross a split of the set; none where it has no split. The sides are all sets within it, but none and
+// all of it.
+fn strength(rig: &[Small], set: u8) -> Option<usize> {
+    (1..set)
+        .filter(|side| *side & set == *side)
+        .map(|side| crossings(rig, set, side))
+        .min()
 }
 
 // The devices of all cables.
 fn devices_of(rig: &[Small]) -> u8 {
-    let mut devices: u8 = 0;
-    for cable in rig {
-        devices |= cable.ends;
-    }
-    devices
+    rig.iter().fold(0, |devices, cable| devices | cable.ends)
 }
 
 /// The highest strength of the sets of the rig's devices that contain both ends.
-pub fn highest_strength(rig: &[Small], ends: u8) -> u16 {
+pub fn highest_strength(rig: &[Small], ends: u8) -> usize {
     let devices = devices_of(rig);
-    let mut highest: u16 = 0;
-    for set in 1..=devices {
-        if set & devices == set && set & ends == ends {
-            highest = highest.max(strength(rig, set));
-        }
-    }
-    highest
+    (1..=devices)
+        .filter(|set| *set & devices == *set && *set & ends == ends)
+        .filter_map(|set| strength(rig, set))
+        .max()
+        .unwrap_or(0)
 }

@@ -1,5 +1,5 @@
 // Small rigs: at most six devices, so that a set of them is a byte.
-ghost use Rattle.std.specs.Prelude.{◌<◌, ◌≤◌};
+ghost use Rattle.std.specs.Prelude.{◌<◌, ◌≤◌, All, ℕ};
 
 use crate::generator::Generator;
 use std::alloc::{AllocError, Global};
@@ -12,34 +12,30 @@ pub struct Small {
     pub ends: u8,
 }
 
-const BITS: [u8; 6] = [1, 2, 4, 8, 16, 32];
-
 /// The devices of the fixed rigs.
 pub const FIRST: [u8; 6] = [0, 1, 2, 3, 4, 5];
 
 /// The devices of the random rigs. The first three are those of a ring of 3 from device 126 on.
 pub const SPREAD: [u8; 6] = [126, 127, 0, 17, 64, 99];
 
-fn joined(devices: &[u8; 6], i: usize, j: usize) -> Small
+fn joined(devices: &[u8; 6], i: u8, j: u8) -> Small
     requires first { i < 6 }
     requires second { j < 6 }
 {
     Small {
-        a: devices[i],
-        b: devices[j],
-        ends: BITS[i] | BITS[j],
+        a: devices[usize::from(i)],
+        b: devices[usize::from(j)],
+        ends: 1 << i | 1 << j,
     }
 }
 
 /// The rig of the cables that join these devices, told by their indices in the table.
-pub fn rig_of(
-    heap: Global,
-    devices: &[u8; 6],
-    pairs: &[(u8, u8)],
-) -> Result<Vec<Small>, AllocError> {
+pub fn rig_of(heap: Global, devices: &[u8; 6], pairs: &[(u8, u8)]) -> Result<Vec<Small>, AllocError>
+    requires { All (λ (p : ℕ × ℕ). (p.0 < 6) × (p.1 < 6)) pairs.now }
+{
     let mut rig = Vec::new(heap);
     for (i, j) in pairs {
-        rig.push(joined(devices, (*i % 6) as usize, (*j % 6) as usize))?;
+        rig.push(joined(devices, *i, *j))?;
     }
     Ok(rig)
 }
@@ -50,7 +46,7 @@ fn random_cable(generator: &mut Generator, devices: u8) -> Small
 {
     let i = generator.below(devices);
     let j = (i + 1 + generator.below(devices - 1)) % devices;
-    joined(&SPREAD, i as usize, j as usize)
+    joined(&SPREAD, i, j)
 }
 
 /// Puts 1 to 12 cables between 2 to 6 devices behind those of the rig.
