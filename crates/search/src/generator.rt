@@ -1,6 +1,7 @@
 ghost use Rattle.std.specs.Prelude.{◌<◌};
 
-/// Numbers that a seed determines, by a linear congruence.
+/// Numbers that a seed determines, by a linear congruence. Its own, and no library's: the stored output is of the rigs that it
+/// gives.
 #[derive(Drop)]
 pub struct Generator {
     state: u64,

@@ -1,4 +1,5 @@
 // What the limits of a tour, a sheet and a ring answer, one case a line.
+use crate::RUN;
 use houses::house::House;
 use houses::misread::Misread;
 use houses::ring::Ring;
@@ -25,11 +26,6 @@ impl fmt::Display for Refused {
         }
     }
 }
-
-const COPPER: Run = Run {
-    medium: Medium::Copper,
-    length: 1,
-};
 
 fn tell(rt: &HostRuntime, what: &str, answer: Result<u16, Refused>) -> anyhow::Result<()> {
     match answer {
@@ -65,14 +61,14 @@ fn tell_lays(rt: &HostRuntime) -> anyhow::Result<()> {
 fn tell_full(rt: &HostRuntime) -> anyhow::Result<()> {
     let mut plan = Open::begin(Sheet::empty());
     for tag in 0..255 {
-        let _ = plan.lay(tag, 0, 1, COPPER);
+        let _ = plan.lay(tag, 0, 1, RUN);
     }
     for (what, tag) in [
         ("the last tour cable", 255),
         ("one more", 256),
         ("one more with a tag that is taken", 255),
     ] {
-        tell(rt, what, plan.lay(tag, 0, 1, COPPER).map_err(Refused::Call))?;
+        tell(rt, what, plan.lay(tag, 0, 1, RUN).map_err(Refused::Call))?;
     }
     Ok(())
 }
@@ -98,7 +94,7 @@ fn tell_rings(rt: &HostRuntime) -> anyhow::Result<()> {
         ("ring of 128", 127, 128),
         ("ring from 128", 128, 3),
     ] {
-        let ring = Ring::new(first, count, COPPER).map_err(Refused::Call);
+        let ring = Ring::new(first, count, RUN).map_err(Refused::Call);
         tell(rt, what, ring.map(|ring| ring.count()))?;
     }
     Ok(())
