@@ -73,6 +73,7 @@ fn tell_full(rt: &HostRuntime) -> anyhow::Result<()> {
     Ok(())
 }
 
+// A chain and a star to the last device and past it, no record, and a record that ends early.
 fn tell_sheets(rt: &HostRuntime) -> anyhow::Result<()> {
     let sheets: [(&str, &[u8]); 6] = [
         ("chain 120 count 7", &[2, 120, 7, 0, 0, 10]),
@@ -88,6 +89,7 @@ fn tell_sheets(rt: &HostRuntime) -> anyhow::Result<()> {
     Ok(())
 }
 
+// Counts and first devices of a ring at their limits.
 fn tell_rings(rt: &HostRuntime) -> anyhow::Result<()> {
     for (what, first, count) in [
         ("ring of 2", 0, 2),
