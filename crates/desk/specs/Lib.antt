@@ -1,4 +1,3 @@
-pub mod Media
 pub mod Questions
 pub mod Replies
 pub mod Setups

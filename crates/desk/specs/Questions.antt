@@ -6,6 +6,7 @@
 --   cut_reply a b              to a cut, with the buffer b that it leaves
 --   judge_reply a              to a judge
 --   Says P said r              some answer a has P, and r is what is said of it
+--   replied r                  the reply that is given, or that the call is refused
 --   blank                      a buffer of 128 zeros
 --   metres_over a b            the length a reaches the length b: it is as short or shorter
 --   metres_of run              the length of a run
@@ -65,6 +66,10 @@ pub record Says {A : Type 0} (P : A → Type 0) (said : A → Reply) (r : Reply)
   pub given : A
   pub holds : P given
   pub reply : r ≡ said given
+
+abbrev pub replied : Result Reply Refusal → Reply
+replied (Ok r) = r
+replied (Err e) = answer.Refused e
 
 abbrev pub blank : List ℕ
 blank = replicate 128 0

@@ -1,25 +1,21 @@
 -- What a console answers to a command, and what it then holds. Assumes nothing.
 --   told r               what is said of the answer to a lay or a lift
---   home p               the house of a plan in either state
---   is_open p            whether it is open
---   tour_of p            its tour's cables with their tags, as the tally has them
---   reply o t c          the answer to a command, the plan being open or closed and its tour t
+--   marked_reply o       what is said of the cable at a place, if there is one
+--   reply o cs t c       the answer to a command, the plan being open or closed, with the cables cs stored and the tour t
 --   open_after o c       whether the plan is open after it
 --   tour_after o t c     the tour after it, as the tally has it
+--   stored_after ..      the cables that it stores after it
 use Rattle.std.specs.Prelude.{ℕ, Bool, true, false, List, [], Some, None, Ok, Err, Option, Result}
 use Rattle.network.specs.declared.cable.Cable.{Cable}
 use Rattle.network.specs.declared.cable.MarkedCable.{MarkedCable}
 use Rattle.network.specs.declared.refusal.Refusal.{Refusal}
-use Rattle.plan.specs.Tally.{laid, lay_answer, lay_after, lift_answer, lift_after}
-use Rattle.plan.specs.States.{cable_of}
-use Rattle.plan.specs.Tables.{closed_cables, marked_at}
+use Rattle.plan.specs.Tally.{lay_answer, lay_after, lift_answer, lift_after}
+use Rattle.plan.specs.Tables.{marked_at}
 use Rattle.network.specs.declared.cable.TourCable.{TourCable}
 use Rattle.script.specs.declared.command.Command.{Command}
 use Rattle.script.specs.declared.command.Command.TheVariants as say
 use Rattle.desk.specs.declared.reply.Reply.{Reply}
 use Rattle.desk.specs.declared.reply.Reply.TheVariants as answer
-use Rattle.desk.specs.declared.state.Plan.{Plan}
-use Rattle.desk.specs.declared.state.Plan.TheVariants as plan
 
 abbrev pub told : Result ℕ Refusal → Reply
 told (Ok n) = answer.Tour n
@@ -33,7 +29,7 @@ abbrev pub reply : Bool → List Cable → List TourCable → Command → Reply
 reply o cs t (say.House bytes) = answer.NotNow
 reply o cs t (say.Shift by) = answer.NotNow
 reply o cs t say.Begin = answer.NotNow
-reply true cs t (say.Lay l) = told (lay_answer t l.tag (cable_of l.a l.b l.run))
+reply true cs t (say.Lay l) = told (lay_answer t l.tag l.cable)
 reply false cs t (say.Lay l) = answer.NotNow
 reply true cs t (say.Lift tag) = told (lift_answer t tag)
 reply false cs t (say.Lift tag) = answer.NotNow
@@ -76,7 +72,7 @@ tour_after false t c = t
 tour_after true t (say.House bytes) = t
 tour_after true t (say.Shift by) = t
 tour_after true t say.Begin = t
-tour_after true t (say.Lay l) = lay_after t l.tag (cable_of l.a l.b l.run)
+tour_after true t (say.Lay l) = lay_after t l.tag l.cable
 tour_after true t (say.Lift tag) = lift_after t tag
 tour_after true t say.Close = t
 tour_after true t say.Reopen = t
@@ -104,20 +100,3 @@ stored_after present o cs (say.Group l) = cs
 stored_after present o cs (say.Run y l) = cs
 stored_after present o cs (say.Cut l) = cs
 stored_after present o cs (say.Judge c) = cs
-
-module _ {X : Type 0} where
-  abbrev pub home : Plan X → X
-  home (plan.Open p) = p.house
-  home (plan.Closed c) = c.house
-
-  abbrev pub is_open : Plan X → Bool
-  is_open (plan.Open p) = true
-  is_open (plan.Closed c) = false
-
-  abbrev pub tour_of : Plan X → List TourCable
-  tour_of (plan.Open p) = laid p.tour
-  tour_of (plan.Closed c) = laid c.tour
-
-  abbrev pub stored : Plan X → List Cable
-  stored (plan.Open p) = []
-  stored (plan.Closed c) = closed_cables c

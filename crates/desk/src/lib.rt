@@ -6,4 +6,3 @@ pub mod reply;
 pub mod score;
 pub mod setup;
 pub mod stage;
-pub mod state;

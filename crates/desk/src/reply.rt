@@ -1,8 +1,5 @@
-ghost use Rattle.std.specs.Prelude.{◌≡◌};
-ghost use Rattle.desk.specs.Media.{medium_name};
-
 use houses::misread::Misread;
-use network::cable::{MarkedCable, Medium, Run};
+use network::cable::{Cable, MarkedCable, Run};
 use network::refusal::Refusal;
 use std::fmt;
 
@@ -62,37 +59,31 @@ pub enum Reply {
     NotYet,
 }
 
-// The word for a medium.
-fn name_of(medium: Medium) -> &'static str
-    ensures { result.now ≡ medium_name medium }
-{
-    match medium {
-        Medium::Copper => "copper",
-        Medium::Fibre => "fibre",
-    }
-}
-
-// The strength, the count and the group's devices, rising.
-fn show_group<W: fmt::Write>(group: &Group, f: &mut fmt::Formatter<W>) -> fmt::Result {
-    let strength = group.strength;
-    let count = group.count;
-    write!(f, "group {strength} {count}")?;
-    for d in 0..128usize {
-        if group.devices[d] == 1 {
-            write!(f, " {d}")?;
+/// The strength, the count and the group's devices, rising.
+impl fmt::Display for Group {
+    fn fmt<W: fmt::Write>(&self, f: &mut fmt::Formatter<W>) -> fmt::Result {
+        let strength = self.strength;
+        let count = self.count;
+        write!(f, "{strength} {count}")?;
+        for (device, byte) in self.devices.iter().enumerate() {
+            if *byte == 1 {
+                write!(f, " {device}")?;
+            }
         }
+        Ok(())
     }
-    Ok(())
 }
 
-// The strength and the sheet's bytes, two digits to a byte.
-fn show_cut<W: fmt::Write>(cut: &Cut, f: &mut fmt::Formatter<W>) -> fmt::Result {
-    let strength = cut.strength;
-    write!(f, "cut {strength} ")?;
-    for part in cut.sheet {
-        write!(f, "{part:02x}")?;
+/// The strength and the sheet's bytes, two digits to a byte.
+impl fmt::Display for Cut {
+    fn fmt<W: fmt::Write>(&self, f: &mut fmt::Formatter<W>) -> fmt::Result {
+        let strength = self.strength;
+        write!(f, "{strength} ")?;
+        for part in self.sheet {
+            write!(f, "{part:02x}")?;
+        }
+        Ok(())
     }
-    Ok(())
 }
 
 /// The line that a console writes.
@@ -110,24 +101,17 @@ impl fmt::Display for Reply {
             Reply::Closed => f.write_str("closed"),
             Reply::Tour(count) => write!(f, "tour {count}"),
             Reply::Marked(marked) => {
-                let a = marked.cable.a;
-                let b = marked.cable.b;
-                let medium = name_of(marked.cable.run.medium);
-                let length = marked.cable.run.length;
+                let Cable { a, b, run } = marked.cable;
                 let mark = marked.mark;
-                write!(f, "mark {a} {b} {medium} {length} {mark}")
+                write!(f, "mark {a} {b} {run} {mark}")
             }
             Reply::Absent => f.write_str("absent"),
             Reply::Strength(strength) => write!(f, "strength {strength}"),
             Reply::Apart => f.write_str("apart"),
-            Reply::Group(group) => show_group(group, f),
-            Reply::Run(run) => {
-                let medium = name_of(run.medium);
-                let length = run.length;
-                write!(f, "run {medium} {length}")
-            }
+            Reply::Group(group) => write!(f, "group {group}"),
+            Reply::Run(run) => write!(f, "run {run}"),
             Reply::Metres(length) => write!(f, "run {length}"),
-            Reply::Cut(cut) => show_cut(cut, f),
+            Reply::Cut(cut) => write!(f, "cut {cut}"),
             Reply::Accepted => f.write_str("accepted"),
             Reply::Refused(refusal) => {
                 let number = refusal.number();

@@ -5,7 +5,7 @@ use crate::reply::Reply;
 
 /// How many commands of a script were answered, how many of them refused, and how many lines were mistaken. A line that is
 /// mistaken counts as a command.
-#[derive(Clone, Copy)]
+#[derive(Clone, Copy, Default)]
 pub struct Score {
     pub commands: u64,
     pub refused: u64,
@@ -17,10 +17,7 @@ impl Reply {
     pub fn refuses(self) -> bool
         ensures { result ≡ refused_by self }
     {
-        match self {
-            Reply::Misread(_) | Reply::Refused(_) => true,
-            _ => false,
-        }
+        matches!(self, Reply::Misread(_) | Reply::Refused(_))
     }
 }
 
@@ -28,11 +25,7 @@ impl Score {
     pub fn none() -> Self
         ensures { Scored 0 0 0 result }
     {
-        Score {
-            commands: 0,
-            refused: 0,
-            errors: 0,
-        }
+        Score::default()
     }
 
     /// One command more, with its answer.
@@ -41,12 +34,8 @@ impl Score {
     {
         Score {
             commands: self.commands.saturating_add(1),
-            refused: if reply.refuses() {
-                self.refused.saturating_add(1)
-            } else {
-                self.refused
-            },
-            errors: self.errors,
+            refused: self.refused.saturating_add(u64::from(reply.refuses())),
+            ..self
         }
     }
 
@@ -56,8 +45,8 @@ impl Score {
     {
         Score {
             commands: self.commands.saturating_add(1),
-            refused: self.refused,
             errors: self.errors.saturating_add(1),
+            ..self
         }
     }
 }

@@ -19,8 +19,7 @@ pub struct Setup {
 fn survey(bytes: &[u8]) -> Result<u16, Misread>
     ensures { result ≡ counted 0 (meaning bytes.now) }
 {
-    let mut sheet = Sheet::empty();
-    sheet.load(bytes)
+    Sheet::empty().load(bytes)
 }
 
 impl Setup {

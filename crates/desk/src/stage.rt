@@ -1,31 +1,25 @@
 ghost use Rattle.std.specs.Prelude.{◌≡◌, ◌++◌};
 ghost use Rattle.plan.specs.Tally.{tour_cables};
-ghost use Rattle.desk.specs.Replies.{told, marked_reply, reply, open_after, tour_after, stored_after, home, is_open, tour_of, stored};
+ghost use Rattle.plan.specs.Plans.{home, is_open, tour_of, stored};
+ghost use Rattle.desk.specs.Replies.{told, marked_reply, reply, open_after, tour_after, stored_after};
 
 use crate::reply::Reply;
-use crate::state::Plan;
 use houses::house::House;
 use network::cable::MarkedCable;
 use network::refusal::Refusal;
-use plan::plan::{Closed, Open};
+use plan::state::Plan;
 use script::command::Command;
 
 fn told_of(answer: Result<u16, Refusal>) -> Reply
     ensures { result ≡ told answer }
 {
-    match answer {
-        Ok(count) => Reply::Tour(count),
-        Err(refusal) => Reply::Refused(refusal),
-    }
+    answer.map_or_else(Reply::Refused, Reply::Tour)
 }
 
 pub(crate) fn told_mark(answer: Option<MarkedCable>) -> Reply
     ensures { result ≡ marked_reply answer }
 {
-    match answer {
-        Some(marked) => Reply::Marked(marked),
-        None => Reply::Absent,
-    }
+    answer.map_or(Reply::Absent, Reply::Marked)
 }
 
 /// Does what a command says on a plan, and gives the plan as it then is, with the answer. A command that the state does not
@@ -40,7 +34,7 @@ pub fn play<H: House>(plan: Plan<H>, command: &Command) -> (Plan<H>, Reply)
     match plan {
         Plan::Open(mut open) => match command {
             Command::Lay(lay) => {
-                let answer = open.lay(lay.tag, lay.a, lay.b, lay.run);
+                let answer = open.lay(lay.tag, lay.cable.a, lay.cable.b, lay.cable.run);
                 (Plan::Open(open), told_of(answer))
             }
             Command::Lift(tag) => {

@@ -10,13 +10,13 @@ use Rattle.life.specs.Replies.{Reply}
 use Rattle.life.specs.Lives.{Step, Life, ends, goes}
 use Rattle.life.specs.Scripts.{ask_of, reply_of, row}
 use Rattle.life.specs.declared.call.Answer.{Answer}
+use Rattle.network.specs.declared.cable.TourCable.{TourCable}
 use Rattle.life.specs.declared.call.Call.{Call}
 use Rattle.life.specs.declared.call.Call.TheVariants as call
-use Rattle.life.specs.declared.call.Lay.{Lay}
 
 -- what an open plan and what a closed one does not allow
 module _ {Y : Type 0} where
-  pub not_open : (c : Call Y) → ((x : Lay) → c ≡ call.Lay x → ⊥) → ((x : ℕ) → c ≡ call.Lift x → ⊥) → (c ≡ call.Close → ⊥) → allowed true (ask_of c) ≡ false
+  pub not_open : (c : Call Y) → ((x : TourCable) → c ≡ call.Lay x → ⊥) → ((x : ℕ) → c ≡ call.Lift x → ⊥) → (c ≡ call.Close → ⊥) → allowed true (ask_of c) ≡ false
   not_open (call.Lay l) lay lift close = absurd (lay l refl)
   not_open (call.Lift tag) lay lift close = absurd (lift tag refl)
   not_open call.Close lay lift close = absurd (close refl)

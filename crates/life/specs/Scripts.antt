@@ -22,7 +22,7 @@ use Rattle.life.specs.declared.call.Call.{Call}
 use Rattle.life.specs.declared.call.Call.TheVariants as call
 
 abbrev pub ask_of : {Y : Type 0} → Call Y → Ask Y
-ask_of (call.Lay l) = ask.lay l.tag l.a l.b l.run
+ask_of (call.Lay l) = ask.lay l.tag l.cable.a l.cable.b l.cable.run
 ask_of (call.Lift tag) = ask.lift tag
 ask_of call.Close = ask.close
 ask_of call.Reopen = ask.reopen

@@ -1,19 +1,12 @@
-use network::cable::Run;
+use network::cable::TourCable;
 use network::refusal::Refusal;
-
-/// A cable to lay: the tag of its drum, its two ends and its run.
-#[derive(Clone, Copy)]
-pub struct Lay {
-    pub tag: u16,
-    pub a: u8,
-    pub b: u8,
-    pub run: Run,
-}
 
 /// One call of a script, with its arguments.
 #[derive(Drop)]
 pub enum Call<Y> {
-    Lay(Lay),
+    /// The cable to lay, with its tag.
+    Lay(TourCable),
+    /// The tag.
     Lift(u16),
     Close,
     Reopen,

@@ -20,7 +20,7 @@ fn on_open<H: House, Y: Yardstick>(mut plan: Open<H>, call: &Call<Y>) -> (Plan<H
 {
     match call {
         Call::Lay(lay) => {
-            let answer = plan.lay(lay.tag, lay.a, lay.b, lay.run);
+            let answer = plan.lay(lay.tag, lay.cable.a, lay.cable.b, lay.cable.run);
             (Plan::Open(plan), Answer::Tour(answer))
         }
         Call::Lift(tag) => {
