@@ -1,5 +1,5 @@
 -- Gathering the cables present and tabulating them with their marks. Assumes nothing.
-use Rattle.std.proofs.Common.{◌≡◌, ℕ, zero, suc, ◌+◌, ◌<◌, ◌≤◌, Bool, true, false, List, [], ◌∷◌, ◌++◌, map, length, get_or, take, Some, None, Option, MatchOption, sym, refl, ap, ◌∙◌, ap₂, append_assoc, ⊎_elim, arith}
+use Rattle.std.proofs.Common.{◌≡◌, ℕ, zero, suc, ◌+◌, ◌<◌, ◌≤◌, Bool, true, false, List, [], ◌∷◌, ◌++◌, map, length, get_or, take, Some, None, Ok, Err, Option, Result, MatchOption, sym, refl, ap, ◌∙◌, ap₂, append_assoc, ⊎_elim, arith}
 use Rattle.std.proofs.lemmas.List.{take_more, map_more}
 use Rattle.std.proofs.lemmas.Option.{slice_get-get_or}
 use Rattle.std.proofs.lemmas.Bool.{cases_lt}
@@ -16,13 +16,16 @@ use Rattle.network.proofs.ListPlaces.{mapped, nth_map}
 use Rattle.network.proofs.Members.{ends_devices}
 use Rattle.network.proofs.Places.{blank}
 use Rattle.cuts.specs.Rigs.{Pushed}
+use Rattle.cuts.specs.declared.rig.Unfit.{Unfit}
+use Rattle.cuts.specs.declared.rig.Unfit.TheVariants.{Unlawful, Full}
 use Rattle.plan.specs.Rows.{cables_in, Marked, mark_rows}
 use Rattle.plan.specs.Tables.{with_mark, marked_at}
 
 -- a lawful cable is taken where there is room
-pub pushed : (old new : List Cable) (c : Cable) (r : Bool) → LawfulCable c → length old < 512 → Pushed old c new r → new ≡ old ++ c ∷ []
-pushed old new c true lawful room p = p.2
-pushed old new c false lawful room p = absurd (p.0 lawful room)
+pub pushed : (old new : List Cable) (c : Cable) (r : Result (Unit {0}) Unfit) → LawfulCable c → length old < 512 → Pushed old c new r → new ≡ old ++ c ∷ []
+pushed old new c (Ok _) lawful room p = p.2
+pushed old new c (Err Unlawful) lawful room p = absurd (p.0 lawful)
+pushed old new c (Err Full) lawful room p = absurd (omega (arith, p.1))
 
 -- one place more of a house
 pub taken_more : (cs old new : List Cable) (i : ℕ) (c : Cable) → slice_get cs i ≡ Some c → i < length cs → old ≡ take i cs → new ≡ old ++ c ∷ [] → new ≡ take (i + 1) cs

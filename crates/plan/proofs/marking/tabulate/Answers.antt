@@ -1,5 +1,5 @@
 use Rattle.std.proofs.Common.{◌≡◌, ◌++◌, ◌∷◌, [], length, get_or, sym, ap, ◌∙◌, subst, arith}
-use Rattle.std.proofs.lemmas.List.{take_all, length-take-le}
+use Rattle.std.proofs.lemmas.List.{take_all}
 use Rattle.network.specs.Cables.{Lawful}
 use Rattle.network.proofs.Places.{blank}
 use Rattle.cuts.specs.Rigs.{rig_cables}
@@ -32,7 +32,7 @@ invariant_of-result c =
     let m = number c.args.marks.now in
     let e = whole c in
     record {
-      few = omega (arith, ap length e, length_rows m (rig_cables r), length-take-le r.count r.cables (omega (arith, r.few, r.size)), r.few);
+      few = omega (arith, ap length e, length_rows m (rig_cables r), r.few);
       lawful = subst Lawful (sym (ap cables_in e ∙ cables_rows m (rig_cables r))) r.lawful;
       marked = subst (λ x. Marked x) (sym e) (rows_marked m (rig_cables r) r.lawful c.requires);
     }
