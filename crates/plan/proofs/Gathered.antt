@@ -1,6 +1,6 @@
 -- Gathering the cables present and tabulating them with their marks. Assumes nothing.
-use Rattle.std.proofs.Common.{◌≡◌, ℕ, zero, suc, ◌+◌, ◌<◌, ◌≤◌, Bool, true, false, List, [], ◌∷◌, ◌++◌, map, length, get_or, take, Some, None, Ok, Err, Option, Result, MatchOption, sym, refl, ap, ◌∙◌, ap₂, append_assoc, ⊎_elim, arith}
-use Rattle.std.proofs.lemmas.List.{take_more, map_more}
+use Rattle.std.proofs.Common.{◌≡◌, ℕ, zero, suc, ◌+◌, ◌<◌, ◌≤◌, List, [], ◌∷◌, ◌++◌, map, length, get_or, take, Some, None, Ok, Err, Option, Result, MatchOption, sym, refl, ap, ◌∙◌, ap₂, append_assoc, ⊎_elim, arith}
+use Rattle.std.proofs.lemmas.List.{take_more, map_more, length-append}
 use Rattle.std.proofs.lemmas.Option.{slice_get-get_or}
 use Rattle.std.proofs.lemmas.Bool.{cases_lt}
 use Rattle.std.specs.List.{slice_get}
@@ -14,7 +14,7 @@ use Rattle.network.specs.declared.cable.MarkedCable.{MarkedCable}
 use Rattle.network.proofs.Figures.{strength_is, strength_from}
 use Rattle.network.proofs.ListPlaces.{mapped, nth_map}
 use Rattle.network.proofs.Members.{ends_devices}
-use Rattle.network.proofs.Places.{blank}
+use Rattle.network.proofs.Places.{blank, place_low}
 use Rattle.cuts.specs.Rigs.{Pushed}
 use Rattle.cuts.specs.declared.rig.Unfit.{Unfit}
 use Rattle.cuts.specs.declared.rig.Unfit.TheVariants.{Unlawful, Full}
@@ -28,13 +28,22 @@ pushed old new c (Err Unlawful) lawful room p = absurd (p.0 lawful)
 pushed old new c (Err Full) lawful room p = absurd (omega (arith, p.1))
 
 -- one place more of a house
-pub taken_more : (cs old new : List Cable) (i : ℕ) (c : Cable) → slice_get cs i ≡ Some c → i < length cs → old ≡ take i cs → new ≡ old ++ c ∷ [] → new ≡ take (i + 1) cs
+taken_more : (cs old new : List Cable) (i : ℕ) (c : Cable) → slice_get cs i ≡ Some c → i < length cs → old ≡ take i cs → new ≡ old ++ c ∷ [] → new ≡ take (i + 1) cs
 taken_more cs old new i c at h e f =
     let g : get_or cs i blank ≡ c = found in
     f ∙ ap₂ (λ xs x. xs ++ x ∷ []) e (sym g) ∙ sym (take_more cs i blank h)
   where
     found : get_or cs i blank ≡ c
     found = let n = slice_get-get_or cs i blank h in cc
+
+-- one cable more of a house: there is one place more, and it is the house's
+pub next_of : (cs old new : List Cable) (c : Cable) (r : Result (Unit {0}) Unfit) → Lawful cs → length cs ≤ 256 → slice_get cs (length old) ≡ Some c → Pushed old c new r → old ≡ take (length old) cs
+    → (new ≡ take (length new) cs) × ((length new ≡ length old + 1) × (length new ≤ length cs))
+next_of cs old new c r lawful few at p e =
+    let low = place_low cs (length old) c at in
+    let more = pushed old new c r (lawful (length old) c at) (omega (arith, low, few)) p in
+    let long : length new ≡ length old + 1 = omega (arith, ap length more, length-append old) in
+    (taken_more cs old new (length old) c at low e more ∙ ap (λ n. take n cs) (sym long), (long, omega (arith, low, long)))
 
 -- where none stands is past the last
 pub past_last : (cs : List Cable) (i : ℕ) → None ≡ slice_get cs i → length cs ≤ i
