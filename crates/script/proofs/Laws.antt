@@ -1,6 +1,7 @@
 -- The words of a line are its maximal runs, and these are one. Assumes nothing.
 use Rattle.std.proofs.Common.{◌≡◌, ℕ, suc, ◌<◌, cond, eqb, filter, not, List, [], ◌∷◌, ◌++◌, length, get_or, sym, refl, ap, ◌∙◌, subst, ⊎_elim, append-nil, arith}
 use Rattle.std.proofs.lemmas.Bool.{eq-eqb, ne_eqb, cond-true, cond-false, cases_eq}
+use Rattle.std.proofs.lemmas.List.Splits.{slice_split-cons_yes}
 use Rattle.std.specs.List.{slice_split, onto_first}
 use Rattle.std.specs.Str.Iter.{LacksByte}
 use Rattle.script.specs.Words.{space, filled, words}
@@ -30,7 +31,7 @@ pieces_cut (b ∷ w) rest no_space =
 
 -- a space in front changes no word
 words_after_space : (b : ℕ) (bs : List ℕ) → b ≡ 32 → words (b ∷ bs) ≡ words bs
-words_after_space b bs is = ap (filter filled) (cond-true (eqb b 32) ([] ∷ pieces bs) (onto_first b (pieces bs)) (eq-eqb b 32 is))
+words_after_space b bs is = ap (filter filled) (slice_split-cons_yes space b bs (eq-eqb b 32 is))
 
 words_after_gap : (gap bs : List ℕ) → Spaces gap → words (gap ++ bs) ≡ words bs
 words_after_gap [] bs h = refl
