@@ -11,7 +11,7 @@ use plan::state::Plan;
 use script::command::Command;
 use script::stop::Stop;
 use std::alloc::AllocError;
-use std::io::{BufRead, BufReader};
+use std::io::{BufRead, BufReader, Split};
 
 /// The script so far: how many lines were read, and the score.
 #[derive(Drop)]
@@ -20,30 +20,15 @@ struct Progress {
     score: Score,
 }
 
-// The bytes of the next line, without its end; none at the end of the input.
-fn next_line<R: BufRead>(rt: &HostRuntime, input: &mut R) -> anyhow::Result<Option<Vec<u8>>> {
-    let mut bytes = Vec::new(rt.alloc());
-    if input.read_until(b'\n', &mut bytes)? == 0 {
-        return Ok(None);
-    }
-    if bytes.last() == Some(&b'\n') {
-        let _ = bytes.pop();
-    }
-    if bytes.last() == Some(&b'\r') {
-        let _ = bytes.pop();
-    }
-    Ok(Some(bytes))
-}
-
 // The command that a line gives. A blank line gives none, and a mistaken line none after it is answered.
 fn command_of(
     rt: &HostRuntime,
-    bytes: &Vec<u8>,
+    line: &[u8],
     progress: &mut Progress,
 ) -> anyhow::Result<Option<Command>> {
     progress.line = progress.line.saturating_add(1);
     let number = progress.line;
-    let Ok(text) = std::str::from_utf8(bytes.as_slice()) else {
+    let Ok(text) = std::str::from_utf8(line.strip_suffix(b"\r").unwrap_or(line)) else {
         progress.score = progress.score.mistaken();
         println!(rt; "error in line {number}: it is not text")?;
         return Ok(None);
@@ -66,17 +51,14 @@ fn answer(rt: &HostRuntime, reply: Reply, progress: &mut Progress) -> anyhow::Re
 }
 
 // Commands up to the one that begins the plan; false where the input ends before.
-fn set_up<R: BufRead>(
+fn set_up<R: BufRead + Drop>(
     rt: &HostRuntime,
-    input: &mut R,
+    lines: &mut Split<R>,
     setup: &mut Setup,
     progress: &mut Progress,
 ) -> anyhow::Result<bool> {
-    for _ in 0..u64::MAX {
-        let Some(bytes) = next_line(rt, input)? else {
-            return Ok(false);
-        };
-        if let Some(command) = command_of(rt, &bytes, progress)? {
+    for line in lines {
+        if let Some(command) = command_of(rt, line?.as_slice(), progress)? {
             let reply = setup.play(command);
             answer(rt, reply, progress)?;
             if let Reply::Open = reply {
@@ -88,18 +70,15 @@ fn set_up<R: BufRead>(
 }
 
 // The commands to a plan over the house, up to the end of the input.
-fn play_all<R: BufRead, H: House + Drop>(
+fn play_all<R: BufRead + Drop, H: House + Drop>(
     rt: &HostRuntime,
-    input: &mut R,
+    lines: &mut Split<R>,
     house: H,
     progress: &mut Progress,
 ) -> anyhow::Result<()> {
     let mut plan = Plan::Open(Open::begin(house));
-    for _ in 0..u64::MAX {
-        let Some(bytes) = next_line(rt, input)? else {
-            return Ok(());
-        };
-        if let Some(command) = command_of(rt, &bytes, progress)? {
+    for line in lines {
+        if let Some(command) = command_of(rt, line?.as_slice(), progress)? {
             let (next, reply) = play(plan, &command);
             plan = next;
             answer(rt, reply, progress)?;
@@ -109,14 +88,14 @@ fn play_all<R: BufRead, H: House + Drop>(
 }
 
 fn run(rt: &HostRuntime) -> anyhow::Result<()> {
-    let mut input = BufReader::new(rt.alloc(), rt.stdin())?;
+    let mut lines = BufReader::new(rt.alloc(), rt.stdin())?.split(rt.alloc(), b'\n');
     let mut progress = Progress {
         line: 0,
         score: Score::none(),
     };
     let mut setup = Setup::new(rt.alloc());
-    if set_up(rt, &mut input, &mut setup, &mut progress)? {
-        play_all(rt, &mut input, setup.house(), &mut progress)?;
+    if set_up(rt, &mut lines, &mut setup, &mut progress)? {
+        play_all(rt, &mut lines, setup.house(), &mut progress)?;
     }
     let Score {
         commands,
