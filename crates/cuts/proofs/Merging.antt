@@ -1,5 +1,5 @@
 -- Merging groups until the best split is a least one: what the loop keeps, and what it gives at the end.
-use Rattle.std.proofs.Common.{◌≡◌, ℕ, ◌<◌, ◌≤◌, Bool, true, ◌⊎◌, List, length, sym, ap, ◌∙◌, inl, inr, ⊎_elim, arith}
+use Rattle.std.proofs.Common.{◌≡◌, eqb, ℕ, ◌<◌, ◌≤◌, Bool, true, ◌⊎◌, List, length, sym, ap, ◌∙◌, inl, inr, ⊎_elim, arith}
 use Rattle.std.proofs.lemmas.Bool.{eq-eqb, ne_eqb, true≢false, cases_lt}
 use Rattle.network.specs.Sets.{DeviceSet, Split}
 use Rattle.cuts.specs.declared.adjacency.link.Link.{Link}
@@ -44,52 +44,51 @@ module _ (S : ℕ → Bool) (labels reps : List ℕ) (n : ℕ) (p : Numbered S l
   }
 
 -- the split of one label
-pub found_lightest : (ls : List Link) (S : ℕ → Bool) (g : Groups) (r : Cut)
-    → ((x : ℕ) → x < length g.reps.items → label g.reps.items x < 128)
-    → ((x : ℕ) → x < length g.reps.items → S (label g.reps.items x) ≡ true)
-    → ((x : ℕ) → x < length g.reps.items → label g.labels (label g.reps.items x) ≡ x)
-    → 2 ≤ length g.reps.items → Lightest (label g.labels) ls (length g.reps.items) r → Found ls S r
-found_lightest ls S g r reps_low reps_in reps_own two l = (
-  record {
-    left = label g.reps.items l.low;
-    right = label g.reps.items away.0;
-    left_in = reps_in l.low l.low_in;
-    right_in = reps_in away.0 away.1;
-    left_side = l.side _ (reps_low l.low l.low_in) ∙ eq-eqb _ l.low (reps_own l.low l.low_in);
-    right_side = l.side _ (reps_low away.0 away.1) ∙ ne_eqb _ l.low (λ z. away.2 (sym (reps_own away.0 away.1) ∙ z));
-  },
-  across_same _ _ ls l.side ∙ sym l.is,
-)
-  where
-    away : (y : ℕ) × (y < length g.reps.items) × (y ≡ l.low → ⊥)
-    away = ⊎_elim (λ h. (1, omega arith, λ z. omega arith)) (λ h. (0, omega arith, λ z. omega arith)) (cases_lt l.low 1)
+module _ (ls : List Link) (S : ℕ → Bool) (g : Groups) (x k : ℕ) (r : Cut) (two : 2 ≤ length g.reps.items) (l : Lightest (label g.labels) ls (length g.reps.items) x k)
+    (is : r.crossings ≡ k) (side : (d : ℕ) → d < 128 → set_of r.side d ≡ eqb (label g.labels d) x) where
+  found_lightest : ((y : ℕ) → y < length g.reps.items → label g.reps.items y < 128)
+      → ((y : ℕ) → y < length g.reps.items → S (label g.reps.items y) ≡ true)
+      → ((y : ℕ) → y < length g.reps.items → label g.labels (label g.reps.items y) ≡ y)
+      → Found ls S r
+  found_lightest reps_low reps_in reps_own = (
+    record {
+      left = label g.reps.items x;
+      right = label g.reps.items away.0;
+      left_in = reps_in x l.low;
+      right_in = reps_in away.0 away.1;
+      left_side = side _ (reps_low x l.low) ∙ eq-eqb _ x (reps_own x l.low);
+      right_side = side _ (reps_low away.0 away.1) ∙ ne_eqb _ x (λ z. away.2 (sym (reps_own away.0 away.1) ∙ z));
+    },
+    across_same _ _ ls side ∙ sym (is ∙ l.is),
+  )
+    where
+      away : (y : ℕ) × (y < length g.reps.items) × (y ≡ x → ⊥)
+      away = ⊎_elim (λ h. (1, omega arith, λ z. omega arith)) (λ h. (0, omega arith, λ z. omega arith)) (cases_lt x 1)
 
-pub merging_none : (ls : List Link) (S : ℕ → Bool) (g : Groups) (b : Cut)
-    → Numbered S g.labels g.reps.items (length g.reps.items) → ((d : ℕ) → S d ≡ true → d < 128) → 2 ≤ length g.reps.items
-    → Lightest (label g.labels) ls (length g.reps.items) b → Merging ls S g b
-merging_none ls S g b p bounded two l = record {
-  seen = λ A sp. inl (A, sp, (λ d h i. ap A (p.own d h i)), omega arith);
-  bounded = bounded;
-  low = λ d h. g.numbered d h (omega arith);
-  reps_low = p.reps_low;
-  reps_in = p.reps_in;
-  reps_own = p.reps_own;
-  found = found_lightest ls S g b p.reps_low p.reps_in p.reps_own two l;
-}
+  pub merging_none : Numbered S g.labels g.reps.items (length g.reps.items) → ((d : ℕ) → S d ≡ true → d < 128) → Merging ls S g r
+  merging_none p bounded = record {
+    seen = λ A sp. inl (A, sp, (λ d h i. ap A (p.own d h i)), omega arith);
+    bounded = bounded;
+    low = λ d h. g.numbered d h (omega arith);
+    reps_low = p.reps_low;
+    reps_in = p.reps_in;
+    reps_own = p.reps_own;
+    found = found_lightest p.reps_low p.reps_in p.reps_own;
+  }
 
-module _ (ls : List Link) (S : ℕ → Bool) (g : Groups) (b : Cut) (p : Merging ls S g b) where
   -- a lesser split, and nothing fused
-  pub merging_lower : (r : Cut) → 2 ≤ length g.reps.items → Lightest (label g.labels) ls (length g.reps.items) r → r.crossings ≤ b.crossings → Merging ls S g r
-  merging_lower r two l less = record {
+  pub merging_lower : (b : Cut) → Merging ls S g b → k ≤ b.crossings → Merging ls S g r
+  merging_lower b p less = record {
     seen = λ A sp. ⊎_elim (λ a. inl a) (λ h. inr (omega arith)) (p.seen A sp);
     bounded = p.bounded;
     low = p.low;
     reps_low = p.reps_low;
     reps_in = p.reps_in;
     reps_own = p.reps_own;
-    found = found_lightest ls S g r p.reps_low p.reps_in p.reps_own two l;
+    found = found_lightest p.reps_low p.reps_in p.reps_own;
   }
 
+module _ (ls : List Link) (S : ℕ → Bool) (g : Groups) (b : Cut) (p : Merging ls S g b) where
   -- one phase
   pub merging_more : (h : Groups) → Ends (λ d. d) S ls → Coarser ls b.crossings g h → Merging ls S h b
   merging_more h ends c = record {

@@ -1,16 +1,14 @@
 -- Words of the method, not of the subject: groups of devices, and the best split so far. Assumes nothing.
 --   Numbered S labels reps n      each device of S has a label below n of its own, and `reps` has the device of each label
---   Lightest L ls n r             r is the split of a label below n that has the least degree
+--   Lightest L ls n x k           the label x, below n, has the least degree, which is k
 --   Coarser ls best g h           the groups h come from g by a fusion that loses no split with fewer than `best` links across
 --   Weakest ls S floor k side     `side` splits S, exactly k links go across, and where k is above the floor no split of S has fewer
-use Rattle.std.specs.Prelude.{◌≡◌, ℕ, ◌<◌, ◌≤◌, Bool, true, false, List, length, ◌==◌}
+use Rattle.std.specs.Prelude.{◌≡◌, ℕ, ◌<◌, ◌≤◌, Bool, true, false, List, length}
 use Rattle.network.specs.Sets.{Split}
-use Rattle.cuts.specs.Members.{set_of}
 use Rattle.cuts.specs.Links.{label, across, degree}
 use Rattle.cuts.specs.Fusions.{Fused}
 use Rattle.cuts.specs.declared.adjacency.link.Link.{Link}
 use Rattle.cuts.specs.declared.adjacency.groups.Groups.{Groups}
-use Rattle.cuts.specs.declared.finder.Cut.{Cut}
 
 pub record Numbered (S : ℕ → Bool) (labels reps : List ℕ) (n : ℕ) : Type 0 where
   pub fits : n ≤ 128
@@ -21,12 +19,10 @@ pub record Numbered (S : ℕ → Bool) (labels reps : List ℕ) (n : ℕ) : Type
   pub reps_in : (x : ℕ) → x < n → S (label reps x) ≡ true
   pub reps_own : (x : ℕ) → x < n → label labels (label reps x) ≡ x
 
-pub record Lightest (L : ℕ → ℕ) (ls : List Link) (n : ℕ) (r : Cut) : Type 0 where
-  pub low : ℕ
-  pub low_in : low < n
-  pub least : (k : ℕ) → k < n → r.crossings ≤ degree L ls k
-  pub is : r.crossings ≡ degree L ls low
-  pub side : (d : ℕ) → d < 128 → set_of r.side d ≡ (L d == low)
+pub record Lightest (L : ℕ → ℕ) (ls : List Link) (n x k : ℕ) : Type 0 where
+  pub low : x < n
+  pub is : k ≡ degree L ls x
+  pub least : (v : ℕ) → v < n → k ≤ degree L ls v
 
 pub record Coarser (ls : List Link) (best : ℕ) (g h : Groups) : Type 0 where
   pub into : List ℕ

@@ -1,4 +1,4 @@
-ghost use Rattle.std.specs.Prelude.{◌≤◌, length};
+ghost use Rattle.std.specs.Prelude.{◌≡◌, ℕ, ◌<◌, ◌≤◌, ◌==◌, length};
 ghost use Rattle.cuts.specs.Members.{set_of};
 ghost use Rattle.cuts.specs.Links.{label, Ends};
 ghost use Rattle.cuts.specs.Phases.{links_in};
@@ -24,16 +24,33 @@ mod order;
 mod phase;
 mod weights;
 
-/// The split of a group that the fewest links lead from.
-fn lightest_split(links: &Links, groups: &Groups) -> Cut
+/// A group that the fewest links lead from, and how many do.
+#[derive(Clone, Copy)]
+struct Light {
+    label: u8,
+    degree: u16,
+}
+
+fn lightest_group(links: &Links, groups: &Groups) -> Light
     requires { 2 ≤ length groups.now.reps.items }
-    ensures { Lightest (label groups.now.labels) links.now.list.items (length groups.now.reps.items) result }
+    ensures { Lightest (label groups.now.labels) links.now.list.items (length groups.now.reps.items) result.label result.degree }
 {
     let degrees = all_degrees(links, groups);
     let label = lightest(&degrees, groups.len());
+    Light {
+        label,
+        degree: degrees[label as usize],
+    }
+}
+
+/// The split of a group.
+fn split_of(groups: &Groups, light: Light) -> Cut
+    ensures crossings { result.crossings ≡ light.degree }
+    ensures side { (d : ℕ) → d < 128 → set_of result.side d ≡ (label groups.now.labels d == light.label) }
+{
     Cut {
-        crossings: degrees[label as usize],
-        side: labelled(&groups.labels, label),
+        crossings: light.degree,
+        side: labelled(&groups.labels, light.label),
     }
 }
 
@@ -55,7 +72,7 @@ fn weakest_split(links: &Links, set: &Devices, mut groups: Groups, floor: u16) -
     requires two { 2 ≤ length groups.reps.items }
     ensures { Weakest links.now.list.items (set_of set.now) floor result.crossings (set_of result.side) }
 {
-    let mut best = lightest_split(links, &groups);
+    let mut best = split_of(&groups, lightest_group(links, &groups));
     while floor < best.crossings {
         groups = coarser(&Phase {
             links,
@@ -65,9 +82,9 @@ fn weakest_split(links: &Links, set: &Devices, mut groups: Groups, floor: u16) -
         if groups.len() < 2 {
             return best;
         }
-        let next = lightest_split(links, &groups);
-        if next.crossings < best.crossings {
-            best = next;
+        let light = lightest_group(links, &groups);
+        if light.degree < best.crossings {
+            best = split_of(&groups, light);
         }
     }
     best
