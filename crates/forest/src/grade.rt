@@ -34,10 +34,10 @@ impl Grade for Run {
     ghost order = { Prim.search rules };
 
     fn reaches(self, other: Run) -> bool {
-        if self.medium == other.medium {
-            self.length <= other.length
-        } else {
-            self.medium == Medium::Fibre
+        match (self.medium, other.medium) {
+            (Medium::Fibre, Medium::Copper) => true,
+            (Medium::Copper, Medium::Fibre) => false,
+            _ => self.length <= other.length,
         }
     }
 }
