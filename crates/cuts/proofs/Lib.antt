@@ -1,5 +1,4 @@
 pub mod Below
-pub mod Mapping
 pub mod Membership
 pub mod Flooring
 pub mod Tallies

@@ -1,6 +1,6 @@
 use Rattle.std.proofs.Common.{cond, get_or, rules, false, ap, ◌∙◌}
 use Rattle.cuts.specs.Members.{set_of}
-use Rattle.cuts.proofs.Mapping.{mapped}
+use Rattle.plan.proofs.Mapping.{mapped}
 use Rattle.plan.proofs.Bytes.{set_written}
 use Rattle.plan.proofs.group.write_bytes.Goals as goal
 
