@@ -59,31 +59,28 @@ pub enum Reply {
     NotYet,
 }
 
-/// The strength, the count and the group's devices, rising.
-impl fmt::Display for Group {
-    fn fmt<W: fmt::Write>(&self, f: &mut fmt::Formatter<W>) -> fmt::Result {
-        let strength = self.strength;
-        let count = self.count;
-        write!(f, "{strength} {count}")?;
-        for (device, byte) in self.devices.iter().enumerate() {
-            if *byte == 1 {
-                write!(f, " {device}")?;
-            }
+// The strength, the count and the group's devices, rising. A function, since a `Display` would promise nothing: of what a
+// `write!` in a loop has written a proof knows nothing.
+fn show_group<W: fmt::Write>(group: &Group, f: &mut fmt::Formatter<W>) -> fmt::Result {
+    let strength = group.strength;
+    let count = group.count;
+    write!(f, "group {strength} {count}")?;
+    for (device, byte) in group.devices.iter().enumerate() {
+        if *byte == 1 {
+            write!(f, " {device}")?;
         }
-        Ok(())
     }
+    Ok(())
 }
 
-/// The strength and the sheet's bytes, two digits to a byte.
-impl fmt::Display for Cut {
-    fn fmt<W: fmt::Write>(&self, f: &mut fmt::Formatter<W>) -> fmt::Result {
-        let strength = self.strength;
-        write!(f, "{strength} ")?;
-        for part in self.sheet {
-            write!(f, "{part:02x}")?;
-        }
-        Ok(())
+// The strength and the sheet's bytes, two digits to a byte; a function for the same reason.
+fn show_cut<W: fmt::Write>(cut: &Cut, f: &mut fmt::Formatter<W>) -> fmt::Result {
+    let strength = cut.strength;
+    write!(f, "cut {strength} ")?;
+    for part in cut.sheet {
+        write!(f, "{part:02x}")?;
     }
+    Ok(())
 }
 
 /// The line that a console writes.
@@ -108,10 +105,10 @@ impl fmt::Display for Reply {
             Reply::Absent => f.write_str("absent"),
             Reply::Strength(strength) => write!(f, "strength {strength}"),
             Reply::Apart => f.write_str("apart"),
-            Reply::Group(group) => write!(f, "group {group}"),
+            Reply::Group(group) => show_group(group, f),
             Reply::Run(run) => write!(f, "run {run}"),
             Reply::Metres(length) => write!(f, "run {length}"),
-            Reply::Cut(cut) => write!(f, "cut {cut}"),
+            Reply::Cut(cut) => show_cut(cut, f),
             Reply::Accepted => f.write_str("accepted"),
             Reply::Refused(refusal) => {
                 let number = refusal.number();

@@ -1,5 +1,5 @@
 // What can be wrong with a line of a script.
-ghost use Rattle.std.specs.Prelude.{◌++◌, Some, codes, decimal};
+ghost use Rattle.std.specs.Prelude.{◌≡◌, ◌++◌, Some, codes, decimal};
 ghost use Rattle.script.specs.Mistakes.{said};
 
 use std::fmt;
@@ -32,12 +32,12 @@ pub struct Mistake {
     pub fault: Fault,
 }
 
-/// What is said of a word with this fault, as `is not a number`.
-impl fmt::Display for Fault {
-    ghost output = { λ fault. Some (said fault) };
-
-    fn fmt<W: fmt::Write>(&self, f: &mut fmt::Formatter<W>) -> fmt::Result {
-        f.write_str(match self {
+impl Fault {
+    /// What is said of a word with this fault.
+    pub fn says(self) -> &'static str
+        ensures { result.now ≡ said self }
+    {
+        match self {
             Fault::UnknownCommand => "is no command",
             Fault::MissingWord => "is missing",
             Fault::ExtraWord => "is one too many",
@@ -46,7 +46,16 @@ impl fmt::Display for Fault {
             Fault::NotHexadecimal => "is not hexadecimal",
             Fault::NotAMedium => "is neither copper nor fibre",
             Fault::NotAYardstick => "is neither plain nor length",
-        })
+        }
+    }
+}
+
+/// As `is not a number`.
+impl fmt::Display for Fault {
+    ghost output = { λ fault. Some (said fault) };
+
+    fn fmt<W: fmt::Write>(&self, f: &mut fmt::Formatter<W>) -> fmt::Result {
+        f.write_str(self.says())
     }
 }
 
