@@ -49,8 +49,7 @@ pub fn order(phase: &Phase, m: &[u16; 16384]) -> ArrayVec<Place, 128>
     ensures { Ordered (label_in phase.now) (links_in phase.now) (under (count_in phase.now)) (labels_of result.items) (weights_of result.items) (count_in phase.now) }
 {
     let n = phase.groups.len();
-    // The flag stands in the weight: with flags beside the weights an order of 128 labels takes 20 us in place of 6, and
-    // with weights that are options 70.
+    // Packed for speed: an order of 128 labels takes 6 us, with flags beside the weights 20, and with weights that are options 70.
     let mut w = [2048u16; 128];
     let mut places = ArrayVec::new();
     while let Some(label) = heaviest(&w, n) {
