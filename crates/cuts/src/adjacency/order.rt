@@ -7,6 +7,8 @@ use crate::adjacency::phase::Phase;
 use crate::adjacency::weights::add_row;
 use arrayvec::ArrayVec;
 
+// The first n of a row, here and in what follows, and no slice: the words of a phase speak of the labels below n.
+
 /// The greatest of the first n.
 fn most(w: &[u16; 128], n: u8) -> Option<u16>
     requires { n ≤ 128 }

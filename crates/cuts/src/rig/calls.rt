@@ -1,19 +1,10 @@
-ghost use Rattle.std.specs.Prelude.{◌≡◌, [], length, Decides};
+ghost use Rattle.std.specs.Prelude.{◌≡◌, [], length};
 ghost use Rattle.std.specs.List.{slice_get};
-ghost use Rattle.network.specs.Cables.{LawfulCable};
 ghost use Rattle.cuts.specs.Rigs.{rig_cables, Pushed};
 
 use crate::rig::{Rig, Unfit};
 use arrayvec::ArrayVec;
 use network::cable::Cable;
-use network::out_of_range;
-
-/// Whether the ends of a cable are two different devices, and its run is in range.
-fn is_lawful(cable: Cable) -> bool
-    ensures { Decides result (LawfulCable cable) }
-{
-    !out_of_range(cable.a) && !out_of_range(cable.b) && cable.a != cable.b && cable.run.fits()
-}
 
 impl Rig {
     /// A rig of no cables.
@@ -29,7 +20,7 @@ impl Rig {
     pub fn push(&mut self, cable: Cable) -> Result<(), Unfit>
         ensures { Pushed (rig_cables self.old) cable (rig_cables self.new) result }
     {
-        if !is_lawful(cable) {
+        if cable.check().is_err() {
             return Err(Unfit::Unlawful);
         }
         self.cables.try_push(cable).map_err(|_| Unfit::Full)
