@@ -88,11 +88,7 @@ impl fmt::Display for Reply {
     fn fmt<W: fmt::Write>(&self, f: &mut fmt::Formatter<W>) -> fmt::Result {
         match self {
             Reply::House(count) => write!(f, "house {count}"),
-            Reply::Misread(misread) => {
-                let number = misread.cause.number();
-                let place = misread.place;
-                write!(f, "refused {number} at {place}")
-            }
+            Reply::Misread(misread) => write!(f, "{misread}"),
             Reply::Shift(by) => write!(f, "shift {by}"),
             Reply::Open => f.write_str("open"),
             Reply::Closed => f.write_str("closed"),
@@ -110,10 +106,7 @@ impl fmt::Display for Reply {
             Reply::Metres(length) => write!(f, "run {length}"),
             Reply::Cut(cut) => show_cut(cut, f),
             Reply::Accepted => f.write_str("accepted"),
-            Reply::Refused(refusal) => {
-                let number = refusal.number();
-                write!(f, "refused {number}")
-            }
+            Reply::Refused(refusal) => write!(f, "{refusal}"),
             Reply::NotNow => f.write_str("not now"),
             Reply::NotYet => f.write_str("not yet"),
         }

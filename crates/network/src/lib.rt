@@ -1,7 +1,7 @@
 // Devices, cables and refusals, and what the strength of a set of devices is.
 #![tactic(auto)]
 
-ghost use Rattle.std.specs.Prelude.{◌≡◌};
+ghost use Rattle.std.specs.Prelude.{◌≡◌, ◌++◌, Some, codes, decimal};
 ghost use Rattle.network.specs.Cables.{above, fit_run};
 ghost use Rattle.network.specs.Laws.{OneStrength, NoneStronger, OneGroup, UnionTied, TiedHolds, StrengthParts};
 ghost use Rattle.network.specs.MarkLaws.{CommonChain, ListChained, SeveralLinked, LoneTouched, GroupChained};
@@ -15,6 +15,7 @@ pub mod refusal;
 
 use cable::{Cable, Medium, Run};
 use refusal::Refusal;
+use std::fmt;
 
 impl Refusal {
     /// The number by which a refusal is known.
@@ -22,6 +23,16 @@ impl Refusal {
         ensures { result ≡ number_of self }
     {
         self as u8
+    }
+}
+
+/// As `refused 4`.
+impl fmt::Display for Refusal {
+    ghost output = { λ r. Some (codes "refused " ++ decimal (number_of r)) };
+
+    fn fmt<W: fmt::Write>(&self, f: &mut fmt::Formatter<W>) -> fmt::Result {
+        let number = self.number();
+        write!(f, "refused {number}")
     }
 }
 

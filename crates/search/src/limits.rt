@@ -1,33 +1,17 @@
 // What the limits of a tour, a sheet and a ring answer, one case a line.
 use crate::RUN;
 use houses::house::House;
-use houses::misread::Misread;
 use houses::ring::Ring;
 use houses::sheet::Sheet;
 use network::cable::{Medium, Run};
-use network::refusal::Refusal;
 use plan::plan::Open;
-use std::fmt;
+use std::fmt::Display;
 
-/// A refusal as it is told: by its number, and that of a sheet with the byte where it comes.
-#[derive(Clone, Copy)]
-enum Refused {
-    Call(Refusal),
-    Sheet(Misread),
-}
-
-impl fmt::Display for Refused {
-    fn fmt<W: fmt::Write>(&self, f: &mut fmt::Formatter<W>) -> fmt::Result {
-        match self {
-            Refused::Call(refusal) => write!(f, "refused {}", refusal.number()),
-            Refused::Sheet(Misread { cause, place }) => {
-                write!(f, "refused {} at {place}", cause.number())
-            }
-        }
-    }
-}
-
-fn tell(rt: &HostRuntime, what: &str, answer: Result<u16, Refused>) -> anyhow::Result<()> {
+fn tell<E: Display + Drop>(
+    rt: &HostRuntime,
+    what: &str,
+    answer: Result<u16, E>,
+) -> anyhow::Result<()> {
     match answer {
         Ok(count) => println!(rt; "{what}: {count}")?,
         Err(refused) => println!(rt; "{what}: {refused}")?,
@@ -49,10 +33,10 @@ fn tell_lays(rt: &HostRuntime) -> anyhow::Result<()> {
         ("a tag again", 1, 0, 1, Medium::Copper, 1),
     ] {
         let answer = plan.lay(tag, a, b, Run { medium, length });
-        tell(rt, what, answer.map_err(Refused::Call))?;
+        tell(rt, what, answer)?;
     }
     for what in ["lift it", "lift it again"] {
-        tell(rt, what, plan.lift(1).map_err(Refused::Call))?;
+        tell(rt, what, plan.lift(1))?;
     }
     Ok(())
 }
@@ -68,7 +52,7 @@ fn tell_full(rt: &HostRuntime) -> anyhow::Result<()> {
         ("one more", 256),
         ("one more with a tag that is taken", 255),
     ] {
-        tell(rt, what, plan.lay(tag, 0, 1, RUN).map_err(Refused::Call))?;
+        tell(rt, what, plan.lay(tag, 0, 1, RUN))?;
     }
     Ok(())
 }
@@ -84,7 +68,7 @@ fn tell_sheets(rt: &HostRuntime) -> anyhow::Result<()> {
         ("a body cut short", &[1, 0, 1, 0, 0, 10, 3, 0, 1, 1, 0, 0]),
     ];
     for (what, bytes) in sheets {
-        tell(rt, what, Sheet::empty().load(bytes).map_err(Refused::Sheet))?;
+        tell(rt, what, Sheet::empty().load(bytes))?;
     }
     Ok(())
 }
@@ -96,7 +80,7 @@ fn tell_rings(rt: &HostRuntime) -> anyhow::Result<()> {
         ("ring of 128", 127, 128),
         ("ring from 128", 128, 3),
     ] {
-        let ring = Ring::new(first, count, RUN).map_err(Refused::Call);
+        let ring = Ring::new(first, count, RUN);
         tell(rt, what, ring.map(|ring| ring.count()))?;
     }
     Ok(())
