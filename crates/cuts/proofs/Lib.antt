@@ -5,7 +5,6 @@ pub mod Tallies
 pub mod Sides
 pub mod Keeping
 pub mod Cells
-pub mod Mosts
 pub mod Placing
 pub mod Least
 pub mod Phases

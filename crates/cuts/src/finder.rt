@@ -14,6 +14,8 @@ pub struct Cut {
     pub side: Devices,
 }
 
+// A finder, a rig and a set are three things of three owners: a struct of them would only be taken apart again.
+
 /// A way to find, for a set of devices, a split that few cables cross.
 pub trait Finder {
     /// A split of the set that no more than `floor` cables cross, or a least one; none for fewer than two devices.

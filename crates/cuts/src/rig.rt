@@ -6,6 +6,8 @@ use network::cable::Cable;
 
 mod calls;
 
+// No `impl Model`: laws of the crates above read the invariants of a rig, which a model hides.
+
 /// The cables of a plan in their order: at most 512, all lawful.
 #[derive(Drop)]
 pub struct Rig {

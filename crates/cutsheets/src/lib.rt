@@ -15,6 +15,8 @@ use cuts::labels::labelled;
 use cuts::rig::Rig;
 use marks::move_side;
 
+// The strength is 0 for apart, and no `Option`: a sheet is good at 0 too. The desk has a struct like it, of what is told and not of what was found.
+
 /// A cut sheet, as the part of each device, and the strength that it shows.
 #[derive(Clone, Copy)]
 pub struct OwnSheet {

@@ -2,6 +2,8 @@
 ghost use Rattle.std.specs.Prelude.{◌≡◌, ◌≤◌, length, MatchOption};
 ghost use Rattle.forest.specs.Crossings.{FoundAt, Best, Passed, Improves, Next, reached_by, beyond};
 
+// Clauses here name what a bound's type has in full, `E.Grade.Grade.over` and so on: a definition of specs/ has no bound to take it from.
+
 use crate::ends::Ends;
 use crate::grade::Grade;
 use crate::graded::Graded;
@@ -44,7 +46,7 @@ fn improved_at<E: Graded>(
     ensures { MatchOption result (Passed E.Grade.Grade.over (E.Graded.cables edges.now) (E.Graded.grade edges.now) labels.now best place) (Improves E.Grade.Grade.over (E.Graded.cables edges.now) (E.Graded.grade edges.now) labels.now best place) }
 {
     let found = found_at(edges, place)?;
-    // One test that seldom passes costs less than two that are hard to foretell: `|`, not `||`.
+    // One test that seldom passes costs less than two that are hard to foretell: `|`, not `||`, and an early end, no `filter`.
     if (labels[found.ends.a as usize] == labels[found.ends.b as usize])
         | reached(best, found.grade)
     {

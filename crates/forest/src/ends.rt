@@ -1,5 +1,7 @@
 ghost use Rattle.std.specs.Prelude.{◌<◌};
 
+// The finder's `Link` is a cable of the set at hand; these are those of any cable, and the crate does not show its links.
+
 /// The two ends of a cable: devices.
 #[derive(Clone, Copy)]
 pub(crate) struct Ends {

@@ -1,6 +1,9 @@
 use network::cable::TourCable;
 use network::refusal::Refusal;
 
+// Calls and answers of their own beside the commands and replies of a console: a law over lives speaks of any type of yardsticks, and
+// of what the calls answer, not of what a console says.
+
 /// One call of a script, with its arguments.
 #[derive(Drop)]
 pub enum Call<Y> {

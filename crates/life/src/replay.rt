@@ -5,6 +5,8 @@ ghost use Rattle.plan.specs.declared.state.Plan.TheVariants as plans;
 ghost use Rattle.life.specs.Lives.{Step};
 ghost use Rattle.life.specs.Scripts.{ask_of, reply_of, Replayed};
 
+// Clauses name what the bounds have, `H.House.cables Y.Grade.Grade.over ..`, in full: a definition of specs/ has no bound to take it from.
+
 use crate::call::{Answer, Call};
 use forest::grade::Grade;
 use forest::yardstick::Yardstick;

@@ -31,6 +31,8 @@ pub fn mark_line(place: u16, marked: MarkedCable, buffer: &mut [u8]) -> Result<u
     put(&line, buffer)
 }
 
+// A number, and no `Refusal`: a narrower parameter would ask more of callers.
+
 /// Writes `refused N at P` and a newline at the front of the buffer, with the number of a refusal for N and a place for P.
 /// Answers how many bytes it wrote, and leaves those behind them.
 /// Refused, with the buffer unchanged, where the buffer has fewer than 128 bytes. Allocates nothing.
@@ -45,7 +47,8 @@ pub fn refusal_line(number: u16, place: u16, buffer: &mut [u8]) -> Result<usize,
     put(&line, buffer)
 }
 
-// Adds a number in decimal, at most five digits, and a text behind it.
+// Adds a number in decimal, at most five digits, and a text behind it. By `push_str`, which asks for room: `write!` says nothing where
+// it fails.
 fn add_number(line: &mut ArrayString<ROOM>, n: u16, behind: &str)
     requires { array_string_len line.old + 5 + length behind.now ≤ ROOM }
     ensures bytes { line.new.bytes ≡ line.old.bytes ++ decimal n ++ behind.now }

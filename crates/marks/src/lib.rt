@@ -27,6 +27,8 @@ pub fn move_side(part: &mut [u8; 128], side: &Devices, p: u8, q: u8)
     }
 }
 
+// An array by place, and no list beside the rig: callers index it by the places that they have.
+
 /// The mark of the cable at each place of a rig. Parts are taken in turn; a part of two devices or more is split, and the cables
 /// across get the number of those that cross the split, or the floor that the part had if it is higher. There are at most
 /// 127 splits.

@@ -53,7 +53,7 @@ impl Run {
     pub fn fits(self) -> bool
         ensures { result ≡ fit_run self }
     {
-        self.length >= 1 && self.length <= self.medium.reach()
+        (1..=self.medium.reach()).contains(&self.length)
     }
 }
 
@@ -74,6 +74,8 @@ impl Cable {
         Ok(())
     }
 }
+
+// A test, and no `Result` with the refusal: each caller has its own rules before it and behind it.
 
 /// Whether a number is above the highest device, 127.
 pub fn out_of_range(device: u8) -> bool

@@ -1,9 +1,9 @@
 -- How the tests of a question follow each other, from the list's on. Assumes nothing.
-use Rattle.std.proofs.Common.{◌≡◌, ℕ, ◌<◌, ◌≤◌, Bool, true, false, not, eqb, ltb, List, [], ◌∷◌, length, is_some, Some, None, IsErrAnd, MatchOption, Ok, Err, Option, Result, sym, refl, ap, ◌∙◌, subst, ⊎_elim, arith}
+use Rattle.std.proofs.Common.{◌≡◌, ℕ, ◌≤◌, Bool, true, false, not, eqb, ltb, List, [], ◌∷◌, length, is_some, Some, None, IsErrAnd, MatchOption, Ok, Err, Option, Result, sym, refl, ap, ◌∙◌, subst, ⊎_elim, arith}
 use mathlib.Core.Path.{fun_ext}
 use Rattle.std.specs.Option.{ok_or}
 use Rattle.std.proofs.lemmas.Result.{err_from_is_err_and}
-use Rattle.std.proofs.lemmas.Bool.{false≢true, cases_Bool, lt-ltb, le-ltb}
+use Rattle.std.proofs.lemmas.Bool.{false≢true, cases_Bool, le-ltb}
 use Rattle.network.specs.Figures.{several}
 use Rattle.network.specs.Lists.{member}
 use Rattle.network.specs.Marks.{OfDevices}
@@ -120,9 +120,18 @@ module _ (s : Devices) (l : List ℕ) (names : Names l (set_of s)) where
       list_passed l (refuse TooFewDevices (not (several (member l))) (Ok tt)) ok
       ∙ ap (λ b. refuse TooFewDevices (not b) (Ok tt)) (several_from (member l) (subst DeviceSet named set))
 
-module _ (l : List ℕ) (n : ℕ) (ok : list_check l ≡ Ok tt) where
-  pub buffer_short : n < 128 → buffer_check l n ≡ Err BufferTooShort
-  buffer_short h = list_passed l (refuse BufferTooShort (ltb n 128) (Ok tt)) ok ∙ ap (λ b. refuse BufferTooShort b (Ok tt)) (lt-ltb n 128 h)
+-- past the list's tests the buffer's decides
+pub buffer_tested : (l : List ℕ) (n : ℕ) → list_check l ≡ Ok tt → buffer_check l n ≡ refuse BufferTooShort (ltb n 128) (Ok tt)
+buffer_tested l n ok = list_passed l (refuse BufferTooShort (ltb n 128) (Ok tt)) ok
 
-  pub buffer_long : 128 ≤ n → buffer_check l n ≡ Ok tt
-  buffer_long h = list_passed l (refuse BufferTooShort (ltb n 128) (Ok tt)) ok ∙ ap (λ b. refuse BufferTooShort b (Ok tt)) (le-ltb n 128 h)
+module _ (n : ℕ) where
+  -- a buffer that passes has room
+  pub roomy : ◌≡◌ {A = Answer} (refuse BufferTooShort (ltb n 128) (Ok tt)) (Ok tt) → 128 ≤ n
+  roomy is = go (ltb n 128) refl is
+    where
+      go : (t : Bool) → ltb n 128 ≡ t → ◌≡◌ {A = Answer} (refuse BufferTooShort t (Ok tt)) (Ok tt) → 128 ≤ n
+      go true e p = never_passed BufferTooShort p
+      go false e p = search arith
+
+  pub buffer_long : (l : List ℕ) → list_check l ≡ Ok tt → 128 ≤ n → buffer_check l n ≡ Ok tt
+  buffer_long l ok h = buffer_tested l n ok ∙ ap (λ b. refuse BufferTooShort b (Ok tt)) (le-ltb n 128 h)

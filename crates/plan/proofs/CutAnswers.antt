@@ -45,7 +45,7 @@ module _ (cs : List Cable) (l : List ℕ) (k : ℕ) (before after parts : List �
   pub cut_answer : CutAnswer cs l before (Ok k) after
   cut_answer = record {
     answer = (
-      buffer_long l (length before) fit room,
+      buffer_long (length before) l fit room,
       record { strength = strength; bytes = λ d h. omega (arith, low d h, byte d h); good = good_same cs l k lawful devices (part_of parts) (part_of after) byte good },
     );
     buffer = (long, later);

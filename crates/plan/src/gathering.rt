@@ -8,6 +8,8 @@ use cuts::rig::Rig;
 use houses::house::House;
 use network::cable::{Cable, MarkedCable, TourCable};
 
+// A trait of the two, and no iterator of cables as a parameter: its clauses would have to say what the iterator gives.
+
 /// A record that holds a cable.
 pub(crate) trait Record {
     ghost held: { Self → Wire };

@@ -17,10 +17,7 @@ use forest::several::lowest;
 pub(crate) fn group_of(table: &Table, devices: &Devices, k: u16) -> Devices
     ensures { (l : List ℕ) (x : ℕ) → Names l (set_of devices.now) → member l x ≡ true → 0 < k → ListStrength (table_cables table.now) l k → Group (table_cables table.now) l k (set_of result) }
 {
-    match lowest(devices) {
-        Some(device) => joined(table, k, device),
-        None => Devices::none(),
-    }
+    lowest(devices).map_or_else(Devices::none, |device| joined(table, k, device))
 }
 
 /// Writes 1 for each device of the set, and 0 for each other, into the first 128 bytes of a buffer.
@@ -28,6 +25,7 @@ pub(crate) fn write_bytes(devices: &Devices, buffer: &mut [u8])
     requires { 128 ≤ length buffer.old }
     ensures { Written (set_of devices.now) 128 buffer.old buffer.new }
 {
+    // An array's `map`, once a question: a loop is faster by a third of a microsecond.
     write_first(buffer, &devices.flags().map(u8::from));
 }
 

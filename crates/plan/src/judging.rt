@@ -27,6 +27,8 @@ pub(crate) fn parts_told(sheet: &[u8]) -> Result<&[u8; 128], Refusal>
     Ok(parts)
 }
 
+// Parts and a part, here and below, and no struct of them: a part is a number that the judge goes through, and no part of a sheet.
+
 /// Whether the cable joins the part and a part with a higher number.
 fn leads_out(cable: Cable, parts: &[u8; 128], part: u8) -> bool
     requires { LawfulCable cable }
@@ -72,6 +74,7 @@ pub(crate) fn first_fault(
 ) -> Option<Refusal>
     ensures { (l : List ℕ) → Names l (set_of devices.now) → FirstFault (table_cables table.now) l k (part_of parts.now) result }
 {
+    // A `loop`, since it breaks with the fault, which no `for` can; the cables that lead out are counted inside.
     let mut part: u8 = 0;
     loop {
         if part > 127 {

@@ -23,6 +23,7 @@ fn tabulate(rig: &Rig, marks: &[u16; 512]) -> Table
     ensures { rows_of result ≡ mark_rows (number marks.now) (rig_cables rig.now) }
 {
     let mut rows = ArrayVec::new();
+    // With the index, and no `zip` with the marks: a stored cable's index is its place, and a mark is asked for by place.
     for (place, cable) in rig.cables().iter().enumerate() {
         rows.push(MarkedCable {
             cable: *cable,

@@ -9,6 +9,8 @@ pub struct Open<H: House> {
     pub(crate) tour: Tour,
 }
 
+// No `impl Model`: the law over lives reads the invariants of a closed plan's table, which a model hides.
+
 /// A plan that is questioned and does not change.
 #[derive(Drop)]
 pub struct Closed<H: House> {

@@ -4,6 +4,7 @@ ghost use Rattle.cuts.specs.Members.{set_of};
 ghost use Rattle.plan.specs.Questions.{StrengthAnswer, GroupAnswer, RunIs, RunAnswer};
 ghost use Rattle.plan.specs.Tables.{table_cables, closed_cables};
 
+use crate::buffer::has_room;
 use crate::grading::Ruled;
 use crate::group::{count_of, group_of, write_bytes};
 use crate::list::listed;
@@ -46,9 +47,7 @@ impl<H: House> Closed<H> {
         ensures { GroupAnswer (closed_cables self.now) list.now buffer.old result buffer.new }
     {
         let devices = listed(list)?;
-        if buffer.len() < 128 {
-            return Err(Refusal::BufferTooShort);
-        }
+        has_room(buffer)?;
         let Some(strength) = strength_of(&self.table, &devices) else {
             write_bytes(&Devices::none(), buffer);
             return Ok(None);

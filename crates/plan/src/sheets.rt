@@ -3,7 +3,7 @@ ghost use Rattle.plan.specs.Tables.{closed_cables};
 ghost use Rattle.plan.specs.Questions.{CutAnswer};
 ghost use Rattle.plan.specs.Judging.{Judges, OwnAccepted};
 
-use crate::buffer::write_first;
+use crate::buffer::{has_room, write_first};
 use crate::judging::{first_fault, parts_told};
 use crate::list::listed;
 use crate::plan::Closed;
@@ -13,6 +13,8 @@ use houses::house::House;
 use network::refusal::Refusal;
 
 impl<H: House> Closed<H> {
+    // A plain strength, 0 for apart, and no `Option`: a cut of a list that is apart has a sheet too, good at 0.
+
     /// Writes a cut sheet of the list into the first 128 bytes of the buffer and answers the list's strength, 0 for apart. The sheet is good
     /// for the list at that strength, so a judge over the same cables accepts it; which good sheet it is, is left open. Refused, with
     /// the buffer left as it is, where the list is empty, has more than 128 entries or names no device, or the buffer has fewer than
@@ -22,9 +24,7 @@ impl<H: House> Closed<H> {
         ensures accepted { OwnAccepted (closed_cables self.now) list.now result buffer.new }
     {
         let devices = listed(list)?;
-        if buffer.len() < 128 {
-            return Err(Refusal::BufferTooShort);
-        }
+        has_room(buffer)?;
         let sheet = own_sheet(&MaxAdjacency, &self.table.rig(), &devices);
         write_first(buffer, &sheet.parts);
         Ok(sheet.strength)
@@ -39,6 +39,7 @@ impl<H: House> Closed<H> {
     {
         let devices = listed(list)?;
         let parts = parts_told(sheet)?;
+        // A match, and no `map_or(Ok(()), Err)`, which hides that a fault is the refusal.
         match first_fault(&self.table, &devices, k, parts) {
             Some(fault) => Err(fault),
             None => Ok(()),

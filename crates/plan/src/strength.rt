@@ -1,4 +1,6 @@
-// The strength of a set of devices, from the marks of the cables.
+// The strength of a set of devices, from the marks of the cables. Up to `strength_of` these are figures as the definitions have them,
+// where 0 is the strength of a list that is apart, and no `Option`. A table and a set of devices are what a question is asked of and about:
+// they meet in these functions alone, and a clause `Names l ..` says of which lists an answer holds.
 ghost use Rattle.std.specs.Prelude.{◌≡◌, ℕ, true, ◌&&◌, List, if◌then◌else◌, nat_lt};
 ghost use Rattle.network.specs.Lists.{member, ListStrength};
 ghost use Rattle.network.specs.Sets.{DeviceSet};

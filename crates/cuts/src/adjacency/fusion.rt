@@ -11,6 +11,8 @@ use crate::adjacency::weights::{add_links, all_degrees};
 use crate::labels::own_labels;
 use arrayvec::ArrayVec;
 
+// A type of its own beside `Groups`, which promises a label below the count for every device: `into` promises it for the labels of a phase alone.
+
 /// What each label becomes, and the first label that became each.
 #[derive(Drop)]
 pub struct Fusion {
@@ -53,6 +55,7 @@ fn pair_up(phase: &Phase, m: &[u16; 16384]) -> [u8; 128]
 {
     let labels = &phase.groups.labels;
     let degrees = all_degrees(phase.links, phase.groups);
+    // `used` beside `to`, and no `Option`: a label that another is moved to is used and not moved.
     let mut to = own_labels();
     let mut used = [false; 128];
     for l in phase.links.list.as_slice() {
@@ -73,6 +76,7 @@ fn roots(to: &[u8; 128], n: u8) -> [bool; 128]
     ensures { (d : ℕ) → d < 128 → flagged result d ≡ (nat_lt d n && slice_index to.now d == d) }
 {
     let mut out = [false; 128];
+    // Each flag is set by its label, as in `labelled`: of a loop over `iter_mut().zip(..)` a proof knows nothing of what was written.
     for (d, label) in to.iter().enumerate() {
         out[d] = d < n as usize && *label as usize == d;
     }

@@ -31,6 +31,7 @@ pub fn links_of(rig: &Rig, set: &Devices) -> Links
     let mut list = ArrayVec::new();
     for c in rig.cables() {
         if both_ends_in(c, set) {
+            // No `From<&Cable>`, which could not ask for a lawful cable.
             list.push(Link { a: c.a, b: c.b });
         }
     }

@@ -7,7 +7,7 @@ use crate::adjacency::phase::Phase;
 use crate::adjacency::weights::add_row;
 use arrayvec::ArrayVec;
 
-// The first n of a row, here and in what follows, and no slice: the words of a phase speak of the labels below n.
+// The first n of a row, here, in `lightest` and in `roots`, and no slice: the words of a phase speak of the labels below n.
 
 /// The greatest of the first n.
 fn most(w: &[u16; 128], n: u8) -> Option<u16>
@@ -33,8 +33,8 @@ fn heaviest(w: &[u16; 128], n: u8) -> Option<u8>
     requires { n ≤ 128 }
     ensures { Heaviest w.now n result }
 {
-    let k = most(w, n)?;
-    if k < 2048 { None } else { first_of(w, n, k) }
+    let k = most(w, n).filter(|k| *k >= 2048)?;
+    first_of(w, n, k)
 }
 
 /// A label, and what it weighed when it was placed.

@@ -5,6 +5,8 @@ use crate::adjacency::groups::Groups;
 use crate::adjacency::link::Link;
 use crate::adjacency::links::Links;
 
+// Rooms and what a matrix counts are facts of these steps alone, which fill it or add it up: no invariant holds all along.
+
 /// Adds one at row x, column v.
 fn bump(m: &mut [u16; 16384], x: u8, v: u8)
     requires row { x < 128 }
@@ -14,6 +16,8 @@ fn bump(m: &mut [u16; 16384], x: u8, v: u8)
 {
     m[x as usize * 128 + v as usize] += 1;
 }
+
+// The two labels of a link are looked up here, in `add_degree` and in `pair_up`: a function would have to say of its pair what `Groups` says of a label.
 
 /// Counts a link into the matrix.
 fn add_link(l: &Link, groups: &Groups, m: &mut [u16; 16384])

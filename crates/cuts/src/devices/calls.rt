@@ -34,6 +34,8 @@ impl Devices {
         &self.flags
     }
 
+    // Here and in `add` the bound is that of the flags, and no rule that a call breaks.
+
     /// Whether a device is in the set. No number above 127 is.
     pub fn has(&self, device: u8) -> bool
         ensures { result ≡ set_of self.now device }

@@ -1,9 +1,10 @@
-use Rattle.std.proofs.Common.{cond, ltb, length, Ok, refl, ap, ◌∙◌}
+use Rattle.std.proofs.Common.{cond, ltb, length, Ok, sym, ap, ◌∙◌}
 use Rattle.network.specs.Refusals.{refuse}
 use Rattle.network.specs.declared.refusal.Refusal.TheVariants.{BufferTooShort}
 use Rattle.plan.specs.Questions.{GroupIs}
+use Rattle.plan.specs.Tests.{buffer_check}
 use Rattle.plan.specs.Tables.{closed_cables}
-use Rattle.plan.proofs.Checking.{listed_one, refused_gives, refused_writes, buffer_short, buffer_long}
+use Rattle.plan.proofs.Checking.{listed_one, buffer_tested, gives_err, refused_gives, refused_writes}
 use Rattle.plan.proofs.Grouping.{above_none, group_told}
 use Rattle.plan.proofs.plan.Closed.group.Goals as goal
 
@@ -18,11 +19,15 @@ returns-in_err-devices g c =
       buffer = refused_writes e c.from_residual.result bs exit;
     }
 
-pub returns-then-buffer-lt128 : goal.returns-then-buffer-lt128
-returns-then-buffer-lt128 g c =
+pub returns-in_err-has_room : goal.returns-in_err-has_room
+returns-in_err-has_room g c =
+    let l = c.args.list.now in
+    let bs = c.args.buffer.now in
+    let e = c.in_err-has_room.field-0.0 in
+    let exit = c.from_residual-in_err-has_room.ensures.1 in
     record {
-      answer = buffer_short c.args.list.now (length c.args.buffer.now) c.in_ok-devices.ensures.0 c.if-buffer-lt128.true;
-      buffer = refl;
+      answer = gives_err (GroupIs (closed_cables c.args.self.now) l bs) (buffer_check l (length bs)) e c.from_residual-in_err-has_room.result exit (buffer_tested l (length bs) c.in_ok-devices.ensures.0 ∙ sym c.in_err-has_room.ensures);
+      buffer = refused_writes e c.from_residual-in_err-has_room.result bs exit;
     }
 
 pub returns-in_default : goal.returns-in_default
@@ -34,7 +39,7 @@ returns-in_default g c =
     let apart = c.in_default.ensures in
     record {
       answer = (
-        buffer_long l (length c.args.buffer.now) ok.0 c.if-buffer-lt128.false,
+        buffer_tested l (length c.args.buffer.now) ok.0 ∙ sym c.in_ok-has_room.ensures,
         (
           (apart l x.0 ok.1 x.1).strength,
           λ d h. w.bytes d h ∙ ap (λ t. cond t 1 0) (c.none.ensures d),
@@ -54,7 +59,7 @@ returns g c =
     let w = c.write_bytes-2.ensures in
     record {
       answer = (
-        buffer_long l (length c.args.buffer.now) ok.0 c.if-buffer-lt128.false,
+        buffer_tested l (length c.args.buffer.now) ok.0 ∙ sym c.in_ok-has_room.ensures,
         group_told (closed_cables c.args.self.now) l c.args.buffer.now c.write_bytes-2.new.buffer k c.count_of.result c.group_of-group.result pos strong.strength
             (c.group_of-group.ensures l x.0 ok.1 x.1 pos strong.strength) w c.count_of.ensures,
       );
