@@ -19,7 +19,7 @@ const MOST: usize = 512;
 /// How many of them are the house's.
 const HOUSE: usize = 256;
 
-/// The run of every cable.
+/// The run of every cable. The search has a run of its own, since two programs share no crate of theirs.
 const RUN: Run = Run {
     medium: Medium::Copper,
     length: 10,
@@ -82,7 +82,7 @@ fn sheet_of(heap: Global, house: &[Ends]) -> Result<Vec<u8>, AllocError> {
     Ok(bytes)
 }
 
-// Lays the cables, with tags from 0 on.
+// Lays the cables, with tags from 0 on. A refused cable ends it, where the search goes on.
 fn lay_tour<H: House>(plan: &mut Open<H>, tour: &[Ends]) -> anyhow::Result<()> {
     for (tag, ends) in (0..u16::MAX).zip(tour) {
         plan.lay(tag, ends.a, ends.b, RUN).map_err(|refusal| anyhow!(

@@ -20,37 +20,37 @@ struct Progress {
     score: Score,
 }
 
-// The command that a line gives. A blank line gives none, and a mistaken line none after it is answered.
-fn command_of(
-    rt: &HostRuntime,
-    line: &[u8],
-    progress: &mut Progress,
-) -> anyhow::Result<Option<Command>> {
-    progress.line = progress.line.saturating_add(1);
-    let number = progress.line;
-    let Ok(text) = std::str::from_utf8(line.strip_suffix(b"\r").unwrap_or(line)) else {
-        progress.score = progress.score.mistaken();
-        println!(rt; "error in line {number}: it is not text")?;
-        return Ok(None);
-    };
-    match script::parse(rt.alloc(), text) {
-        Ok(command) => Ok(command),
-        Err(Stop::Mistake(mistake)) => {
-            progress.score = progress.score.mistaken();
-            println!(rt; "error in line {number}: {mistake}")?;
-            Ok(None)
+impl Progress {
+    // The command that a line gives. A blank line gives none, and a mistaken line none after it is answered.
+    fn command_of(&mut self, rt: &HostRuntime, line: &[u8]) -> anyhow::Result<Option<Command>> {
+        // Counted here, and no `enumerate`: two loops read on from one count.
+        self.line = self.line.saturating_add(1);
+        let number = self.line;
+        let Ok(text) = std::str::from_utf8(line.strip_suffix(b"\r").unwrap_or(line)) else {
+            self.score = self.score.mistaken();
+            println!(rt; "error in line {number}: it is not text")?;
+            return Ok(None);
+        };
+        match script::parse(rt.alloc(), text) {
+            Ok(command) => Ok(command),
+            Err(Stop::Mistake(mistake)) => {
+                self.score = self.score.mistaken();
+                println!(rt; "error in line {number}: {mistake}")?;
+                Ok(None)
+            }
+            // A lack of memory holds nothing that could be handed on.
+            Err(Stop::Memory) => Err(AllocError.into()),
         }
-        Err(Stop::Memory) => Err(AllocError.into()),
+    }
+
+    fn answer(&mut self, rt: &HostRuntime, reply: Reply) -> anyhow::Result<()> {
+        self.score = self.score.answered(reply);
+        println!(rt; "{reply}")?;
+        Ok(())
     }
 }
 
-fn answer(rt: &HostRuntime, reply: Reply, progress: &mut Progress) -> anyhow::Result<()> {
-    progress.score = progress.score.answered(reply);
-    println!(rt; "{reply}")?;
-    Ok(())
-}
-
-// Commands up to the one that begins the plan; false where the input ends before.
+// Commands up to the one that begins the plan; false where the input ends before. A `bool`, since there is nothing to hand on with it.
 fn set_up<R: BufRead + Drop>(
     rt: &HostRuntime,
     lines: &mut Split<R>,
@@ -58,9 +58,9 @@ fn set_up<R: BufRead + Drop>(
     progress: &mut Progress,
 ) -> anyhow::Result<bool> {
     for line in lines {
-        if let Some(command) = command_of(rt, line?.as_slice(), progress)? {
+        if let Some(command) = progress.command_of(rt, line?.as_slice())? {
             let reply = setup.play(command);
-            answer(rt, reply, progress)?;
+            progress.answer(rt, reply)?;
             if let Reply::Open = reply {
                 return Ok(true);
             }
@@ -78,10 +78,10 @@ fn play_all<R: BufRead + Drop, H: House + Drop>(
 ) -> anyhow::Result<()> {
     let mut plan = Plan::Open(Open::begin(house));
     for line in lines {
-        if let Some(command) = command_of(rt, line?.as_slice(), progress)? {
+        if let Some(command) = progress.command_of(rt, line?.as_slice())? {
             let (next, reply) = play(plan, &command);
             plan = next;
-            answer(rt, reply, progress)?;
+            progress.answer(rt, reply)?;
         }
     }
     Ok(())
@@ -97,6 +97,7 @@ fn run(rt: &HostRuntime) -> anyhow::Result<()> {
     if set_up(rt, &mut lines, &mut setup, &mut progress)? {
         play_all(rt, &mut lines, setup.house(), &mut progress)?;
     }
+    // Written once, so here and no `Display` of a score.
     let Score {
         commands,
         refused,

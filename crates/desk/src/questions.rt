@@ -12,6 +12,9 @@ use network::refusal::Refusal;
 use plan::plan::Closed;
 use script::command::{Claim, Command, Yardstick};
 
+// One function for each question, and no common one that is told what to ask: a clause here names the question's rule, and of a
+// closure that asks it would say the same again. A closed plan and a list stand in each, since that is what a question is.
+
 fn asked_strength<H: House>(closed: &Closed<H>, list: &[u8]) -> Result<Reply, Refusal>
     ensures { StrengthReply (closed_cables closed.now) list.now (replied result) }
 {
@@ -22,6 +25,7 @@ fn asked_strength<H: House>(closed: &Closed<H>, list: &[u8]) -> Result<Reply, Re
 fn asked_group<H: House>(closed: &Closed<H>, list: &[u8]) -> Result<Reply, Refusal>
     ensures { GroupReply (closed_cables closed.now) list.now (replied result) }
 {
+    // A buffer of zeros here and below: `group` and `cut` write to their caller's.
     let mut devices = [0u8; 128];
     let Some((strength, count)) = closed.group(list, &mut devices)? else {
         return Ok(Reply::Apart);

@@ -3,6 +3,8 @@ use network::cable::{Cable, MarkedCable, Run};
 use network::refusal::Refusal;
 use std::fmt;
 
+// A struct with a length beside bytes, a strength of 0, and one flat enum of all answers: the types that a console's callers match on.
+
 /// The group of a list: the list's strength, how many devices the group has, and a byte for each device, 1 where it is in.
 #[derive(Clone, Copy)]
 pub struct Group {
@@ -66,6 +68,7 @@ fn show_group<W: fmt::Write>(group: &Group, f: &mut fmt::Formatter<W>) -> fmt::R
     let count = group.count;
     write!(f, "group {strength} {count}")?;
     for (device, byte) in group.devices.iter().enumerate() {
+        // The bytes that a plan writes, which are its format: 1 is in.
         if *byte == 1 {
             write!(f, " {device}")?;
         }
@@ -94,6 +97,7 @@ impl fmt::Display for Reply {
             Reply::Closed => f.write_str("closed"),
             Reply::Tour(count) => write!(f, "tour {count}"),
             Reply::Marked(marked) => {
+                // Here, and no `Display` of a marked cable: the mark list writes one in other words.
                 let Cable { a, b, run } = marked.cable;
                 let mark = marked.mark;
                 write!(f, "mark {a} {b} {run} {mark}")

@@ -16,6 +16,7 @@ pub struct Setup {
     by: u8,
 }
 
+// A function, so that the sheet's borrow of the bytes ends before they are kept.
 fn survey(bytes: &[u8]) -> Result<u16, Misread>
     ensures { result ≡ counted 0 (meaning bytes.now) }
 {
@@ -63,6 +64,7 @@ impl Setup {
         ensures sheet { cables_of (meaning result.house.bytes.now) ≡ cables_of (meaning self.now.bytes.items) }
         ensures by { result.by ≡ self.now.by }
     {
+        // An empty sheet that loads, here and wherever one is made: it can't fail to be, and a refused load keeps what it had.
         let mut sheet = Sheet::empty();
         let _ = sheet.load(self.bytes.as_slice());
         Shift::over(sheet, self.by)

@@ -17,6 +17,7 @@ use plan::plan::{Closed, Open};
 pub fn lay_and_lift(ring: Ring) -> (u16, u16)
     ensures { (result.0 ≡ ring.count + 1) × (result.1 ≡ ring.count) }
 {
+    // A crate that shows a plan's use shares no names with one that checks its figures.
     let run = Run {
         medium: Medium::Copper,
         length: 5,
@@ -40,6 +41,8 @@ pub fn house_mark<H: House + Drop>(house: H, place: u16) -> Option<MarkedCable>
     let closed = Open::begin(house).close();
     closed.mark(place)
 }
+
+// A `bool` in the answer, and no unit: its rule says that the second console accepts, and a refusal is the first console's.
 
 /// One console writes the cut sheet of a list; another, whose plan has the same cables, judges it at the strength answered and accepts.
 pub fn second_opinion<H: House, J: House>(

@@ -2,16 +2,10 @@ ghost use Rattle.std.specs.Prelude.{[], ◌∷◌, ◌++◌};
 ghost use Rattle.figures.specs.Rigs.{two_cliques, bridge, first_clique, both_cliques};
 ghost use Rattle.figures.specs.Tells.{Tells};
 
-use crate::rigs::{begin_over, two_cliques};
+use crate::rigs::{PATCH, begin_over, two_cliques};
 use crate::told::{Told, ask};
-use network::cable::{Medium, Run};
 
 const DRUM: u16 = 7;
-
-const BRIDGE: Run = Run {
-    medium: Medium::Copper,
-    length: 5,
-};
 
 /// What a plan of two cliques tells over its life: of two devices of the first clique, and of one of each.
 #[derive(Drop)]
@@ -37,7 +31,7 @@ pub fn two_cliques_bridged() -> Life
     let within = ask(&plan, &[0, 1]);
     let across = ask(&plan, &[0, 4]);
     let mut open = plan.reopen();
-    let _ = open.lay(DRUM, 2, 6, BRIDGE);
+    let _ = open.lay(DRUM, 2, 6, PATCH);
     let plan = open.close();
     let bridged = ask(&plan, &[0, 1]);
     let mut open = plan.reopen();

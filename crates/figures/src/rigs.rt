@@ -6,7 +6,14 @@ ghost use Rattle.figures.specs.Over.{Over};
 ghost use Rattle.figures.specs.Rigs.{two_between, triangle_and_tail, three_ways, two_cliques, example_sheet};
 
 use houses::sheet::Sheet;
+use network::cable::{Medium, Run};
 use plan::plan::{Closed, Open};
+
+/// A short copper cable, the run of all that need no other.
+pub(crate) const PATCH: Run = Run {
+    medium: Medium::Copper,
+    length: 5,
+};
 
 // A plan begun over the sheet of these bytes.
 pub(crate) fn begin_over<'a>(bytes: &'a [u8]) -> Open<Sheet<'a>>

@@ -11,6 +11,7 @@ use plan::plan::Closed;
 pub struct Told {
     pub strength: Result<Option<u16>, Refusal>,
     pub group: Result<Option<(u16, u8)>, Refusal>,
+    // The buffer that the answer was written to, as every caller of a plan has one.
     pub bytes: [u8; 128],
 }
 

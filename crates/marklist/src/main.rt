@@ -24,6 +24,7 @@ fn write_line<F: FnOnce(&mut [u8]) -> Result<usize, Refusal>>(
     requires callable { F.IsAlwaysCallable lay }
     requires within { (line r after : _) → length line.now ≡ 128 → F.post lay line r after → IsOkAnd r (λ n. n ≤ 128) }
 {
+    // A buffer and how much of it is written: what both kinds of line take.
     let mut line = [0u8; ROOM];
     let len = lay(&mut line).unwrap();
     rt.stdout().write_all(&line[..len])

@@ -56,6 +56,7 @@ impl<'a> Cursor<'a> {
     pub fn byte(&mut self) -> Result<u8, Stop>
         ensures { Takes 1 same result self.old self.new (read_at (number 255)) }
     {
+        // `as`, since the number is at most 255: `try_from` would have a failure that can't be.
         let value = self.number(255)?;
         Ok(value as u8)
     }

@@ -30,8 +30,7 @@ pub fn parse(heap: Global, line: &str) -> Result<Option<Command>, Stop>
     if words.says_nothing() {
         return Ok(None);
     }
-    let command = words.command()?;
-    Ok(Some(command))
+    words.command().map(Some)
 }
 
 /// The words of a line are its maximal runs of bytes other than the space, and it has no others.

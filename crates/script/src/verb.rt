@@ -5,7 +5,7 @@ ghost use Rattle.script.specs.Verbs.{verb_named};
 use std::str::FromStr;
 
 /// The name of a command.
-#[derive(Clone, Copy)]
+#[derive(Clone, Copy, PartialEq, Eq, Debug)]
 pub enum Verb {
     House,
     Shift,
@@ -23,7 +23,7 @@ pub enum Verb {
 }
 
 /// A word that names no command.
-#[derive(Clone, Copy)]
+#[derive(Clone, Copy, PartialEq, Eq, Debug)]
 pub struct UnknownVerb;
 
 /// The command of that name.

@@ -23,12 +23,13 @@ const SEED: u64 = 20240229;
 /// How many random rigs there are over each of the two houses.
 const ROUNDS: u32 = 100;
 
+/// The run of every cable.
 const RUN: Run = Run {
     medium: Medium::Copper,
     length: 10,
 };
 
-/// What was compared so far.
+/// What was compared so far. It stands beside the runtime in each function that compares, as in any program that writes as it counts.
 #[derive(Default, Drop)]
 struct Tally {
     rigs: u32,

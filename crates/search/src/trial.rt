@@ -30,6 +30,7 @@ impl<'a, H: House> Trial<'a, H> {
     // Whether the plan has this cable at the place, with the mark that the search finds.
     fn agrees_at(&self, place: u16, cable: &Small) -> bool {
         self.closed.mark(place).is_some_and(|marked| {
+            // Each end by itself: a rig's own cable has no run to compare.
             marked.cable.a == cable.a
                 && marked.cable.b == cable.b
                 && usize::from(marked.mark) == highest_strength(self.rig, cable.ends)
