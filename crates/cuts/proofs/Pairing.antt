@@ -28,7 +28,7 @@ module _ (L : ℕ → ℕ) (ls : List Link) (n best : ℕ) where
   movable_same : (to to' : ℕ → ℕ) → ((x : ℕ) → x < n → to' x ≡ to x) → Movable L ls n best to → Movable L ls n best to'
   movable_same to to' e m B two = ⊎_elim (λ q. inl (q.0, q.1, (λ x h. ap q.0 (e x h) ∙ q.2 x h), q.3)) (λ h. inr h) (m B two)
 
-  pub pairing_more : (to : List ℕ) (used : List Bool) (m degrees : List ℕ) (a b : ℕ)
+  pub pairing_more : (to : List ℕ) (used : List Bool) (m : List (List ℕ)) (degrees : List ℕ) (a b : ℕ)
       → n ≤ 128 → ((d : ℕ) → d < 128 → L d < n) → a < n → b < n
       → get_or degrees a 0 ≡ degree L ls a → best ≤ get_or degrees a 0 → cell m a b ≡ between L a b ls
       → pairs m degrees used a b ≡ true

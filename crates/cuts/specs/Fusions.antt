@@ -35,5 +35,5 @@ pub record Fused (L : ℕ → ℕ) (ls : List Link) (n best last : ℕ) (into fi
   pub few : c ≤ n
   pub some : 1 ≤ c
 
-abbrev pub pairs : List ℕ → List ℕ → List Bool → ℕ → ℕ → Bool
+abbrev pub pairs : List (List ℕ) → List ℕ → List Bool → ℕ → ℕ → Bool
 pairs m degrees used a b = not (a == b) && (not (flagged used a) && (not (flagged used b) && nat_le (slice_index degrees a) (cell m a b + cell m a b)))

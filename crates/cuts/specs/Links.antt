@@ -3,7 +3,7 @@
 --   one b               1 or 0
 --   flagged xs d        the flag at d is set
 --   label xs d          the label of d
---   cell m y u          row y, column u of a matrix of 128 columns
+--   cell m y u          row y, column u of a matrix
 --   joins L x v l       the link joins the labels x and v
 --   between L x v ls    how many links join x and v
 --   Matrix L ls m       each cell of m has how many links join its row and its column
@@ -12,7 +12,7 @@
 --   degree L ls x       how many links lead from the label x to another
 --   Ends L S ls         each end of each link is of S, by its label
 --   Keeps cs S ls       the links are the cables that belong to S
-use Rattle.std.specs.Prelude.{◌≡◌, ℕ, ◌+◌, ◌*◌, ◌<◌, ◌≤◌, Bool, true, false, cond, ◌&&◌, List, length, count_by, ◌==◌, nat_eq, slice_index, slice_index_or}
+use Rattle.std.specs.Prelude.{◌≡◌, ℕ, ◌<◌, ◌≤◌, Bool, true, false, cond, ◌&&◌, List, [], length, count_by, ◌==◌, nat_eq, slice_index, slice_index_or}
 use Rattle.std.specs.List.{AllByRecursion}
 use Rattle.network.specs.Sets.{differ, crossings}
 use Rattle.network.specs.declared.cable.Cable.{Cable}
@@ -27,8 +27,8 @@ flagged xs d = slice_index_or xs d false
 abbrev pub label : List ℕ → ℕ → ℕ
 label xs d = slice_index xs d
 
-abbrev pub cell : List ℕ → ℕ → ℕ → ℕ
-cell m y u = slice_index m (y * 128 + u)
+abbrev pub cell : List (List ℕ) → ℕ → ℕ → ℕ
+cell m y u = slice_index (slice_index_or m y []) u
 
 abbrev pub joins : (ℕ → ℕ) → ℕ → ℕ → Link → Bool
 joins L x v l = cond (L l.a == x) (L l.b == v) (L l.b == x && L l.a == v)
@@ -36,7 +36,7 @@ joins L x v l = cond (L l.a == x) (L l.b == v) (L l.b == x && L l.a == v)
 abbrev pub between : (ℕ → ℕ) → ℕ → ℕ → List Link → ℕ
 between L x v ls = count_by (joins L x v) ls
 
-abbrev pub Matrix : (ℕ → ℕ) → List Link → List ℕ → Type 0
+abbrev pub Matrix : (ℕ → ℕ) → List Link → List (List ℕ) → Type 0
 Matrix L ls m = (y u : ℕ) → y < 128 → u < 128 → cell m y u ≡ between L y u ls
 
 abbrev pub spans : (ℕ → Bool) → Link → Bool

@@ -37,18 +37,18 @@ fn fuse(phase: &Phase, order: &ArrayVec<Place, 128>) -> Fusion
 }
 
 /// Whether neither label is used yet, and half of the first one's links go to the second.
-fn may_pair(m: &[u16; 16384], degrees: &[u16; 128], used: &[bool; 128], a: u8, b: u8) -> bool
+fn may_pair(m: &[[u16; 128]; 128], degrees: &[u16; 128], used: &[bool; 128], a: u8, b: u8) -> bool
     requires low { a < 128 }
     requires high { b < 128 }
     requires few { cell m.now a b ≤ 512 }
     ensures { result ≡ pairs m.now degrees.now used.now a b }
 {
-    let k = m[a as usize * 128 + b as usize];
+    let k = m[a as usize][b as usize];
     a != b && !used[a as usize] && !used[b as usize] && degrees[a as usize] <= k + k
 }
 
 /// Moves labels to others that half of their links go to.
-fn pair_up(phase: &Phase, m: &[u16; 16384]) -> [u8; 128]
+fn pair_up(phase: &Phase, m: &[[u16; 128]; 128]) -> [u8; 128]
     requires { Matrix (label_in phase.now) (links_in phase.now) m.now }
     ensures moved { Moved (label_in phase.now) (links_in phase.now) (count_in phase.now) phase.now.best result }
     ensures low { (x : ℕ) → x < 128 → slice_index result x < 128 }
@@ -89,7 +89,7 @@ pub fn shrink(phase: &Phase) -> Fusion
     ensures { Fused (label_in phase.now) (links_in phase.now) (count_in phase.now) phase.now.best phase.now.best result.into result.firsts.items (length result.firsts.items) }
 {
     let n = phase.groups.len();
-    let mut m = [0u16; 16384];
+    let mut m = [[0u16; 128]; 128];
     add_links(phase.links, phase.groups, &mut m);
     let fused = fuse(phase, &order(phase, &m));
     if fused.firsts.len() <= n as usize / 2 {

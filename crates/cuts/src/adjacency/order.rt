@@ -37,6 +37,8 @@ fn heaviest(w: &[u16; 128], n: u8) -> Option<u8>
     first_of(w, n, k)
 }
 
+// A type beside `Light`, which is a group and what leads from it: a weight when placed is no degree.
+
 /// A label, and what it weighed when it was placed.
 #[derive(Clone, Copy, Default)]
 pub struct Place {
@@ -46,7 +48,7 @@ pub struct Place {
 
 /// A maximum adjacency order of the labels: each in its turn has the most links to those placed before it.
 /// A label that is not placed yet has 2048 above its weight, so that one search for the greatest finds it.
-pub fn order(phase: &Phase, m: &[u16; 16384]) -> ArrayVec<Place, 128>
+pub fn order(phase: &Phase, m: &[[u16; 128]; 128]) -> ArrayVec<Place, 128>
     requires { Matrix (label_in phase.now) (links_in phase.now) m.now }
     ensures { Ordered (label_in phase.now) (links_in phase.now) (under (count_in phase.now)) (labels_of result.items) (weights_of result.items) (count_in phase.now) }
 {

@@ -7,33 +7,32 @@ use crate::adjacency::links::Links;
 
 // Rooms and what a matrix counts are facts of these steps alone, which fill it or add it up: no invariant holds all along.
 
-/// Adds one at row x, column v.
-fn bump(m: &mut [u16; 16384], x: u8, v: u8)
-    requires row { x < 128 }
+/// Adds one at column v of a row.
+fn bump(row: &mut [u16; 128], v: u8)
     requires column { v < 128 }
-    requires room { (y u : ℕ) → y < 128 → u < 128 → cell m.old y u ≤ 1024 }
-    ensures { (y u : ℕ) → y < 128 → u < 128 → cell m.new y u ≡ cell m.old y u + one (y == x && u == v) }
+    requires room { slice_index row.old v ≤ 1024 }
+    ensures { (u : ℕ) → u < 128 → slice_index row.new u ≡ slice_index row.old u + one (u == v) }
 {
-    m[x as usize * 128 + v as usize] += 1;
+    row[v as usize] += 1;
 }
 
 // The two labels of a link are looked up here, in `add_degree` and in `pair_up`: a function would have to say of its pair what `Groups` says of a label.
 
 /// Counts a link into the matrix.
-fn add_link(l: &Link, groups: &Groups, m: &mut [u16; 16384])
+fn add_link(l: &Link, groups: &Groups, m: &mut [[u16; 128]; 128])
     requires room { (y u : ℕ) → y < 128 → u < 128 → cell m.old y u ≤ 1000 }
     ensures { (y u : ℕ) → y < 128 → u < 128 → cell m.new y u ≡ cell m.old y u + one (joins (label groups.now.labels) y u l.now) }
 {
     let a = groups.labels[l.a as usize];
     let b = groups.labels[l.b as usize];
-    bump(m, a, b);
+    bump(&mut m[a as usize], b);
     if a != b {
-        bump(m, b, a);
+        bump(&mut m[b as usize], a);
     }
 }
 
 /// Counts the links between each two labels into a matrix of zeros, 128 rows of 128.
-pub fn add_links(links: &Links, groups: &Groups, m: &mut [u16; 16384])
+pub fn add_links(links: &Links, groups: &Groups, m: &mut [[u16; 128]; 128])
     requires empty { (y u : ℕ) → y < 128 → u < 128 → cell m.old y u ≡ 0 }
     ensures { Matrix (label groups.now.labels) links.now.list.items m.new }
 {
@@ -43,16 +42,15 @@ pub fn add_links(links: &Links, groups: &Groups, m: &mut [u16; 16384])
 }
 
 /// Adds row x of the matrix to the weights.
-pub fn add_row(m: &[u16; 16384], x: u8, w: &mut [u16; 128])
+pub fn add_row(m: &[[u16; 128]; 128], x: u8, w: &mut [u16; 128])
     requires row { x < 128 }
     requires few { (v : ℕ) → v < 128 → cell m.now x v ≤ 512 }
     requires room { (v : ℕ) → v < 128 → slice_index w.old v ≤ 4096 }
     ensures { (v : ℕ) → v < 128 → slice_index w.new v ≡ slice_index w.old v + cell m.now x v }
 {
-    let from = x as usize * 128;
     // By index: of a loop over `iter_mut().zip(..)` a proof knows nothing of what was written.
     for v in 0..128usize {
-        w[v] += m[from + v];
+        w[v] += m[x as usize][v];
     }
 }
 

@@ -1,4 +1,4 @@
-use Rattle.std.proofs.Common.{◌≡◌, ℕ, ◌<◌, ◌+◌, ◌*◌, ◌&&◌, eqb, ltb, get_or, subst, arith}
+use Rattle.std.proofs.Common.{◌≡◌, ℕ, ◌<◌, ◌&&◌, eqb, ltb, List, [], get_or, replicate, ap, ◌∙◌, subst, arith}
 use Rattle.std.proofs.lemmas.List.{get_or-replicate}
 use Rattle.cuts.specs.Links.{flagged}
 use Rattle.cuts.proofs.Pairing.{fused_by_pairs, fused_less}
@@ -6,7 +6,7 @@ use Rattle.cuts.proofs.Phases.{last_least}
 use Rattle.cuts.proofs.adjacency.fusion.shrink.Goals as goal
 
 pub add_links-requires : goal.add_links-requires
-add_links-requires c = record { empty = λ y u hy hu. get_or-replicate {A = ℕ} 16384 (y * 128 + u) 0 0 (omega arith) }
+add_links-requires c = record { empty = λ y u hy hu. ap (λ r. get_or r u 0) (get_or-replicate {A = List ℕ} 128 y (replicate 128 0) [] hy) ∙ get_or-replicate {A = ℕ} 128 u 0 0 hu }
 
 pub returns-then-len-n : goal.returns-then-len-n
 returns-then-len-n c =

@@ -1,9 +1,18 @@
-use Rattle.std.proofs.Common.{get_or, arith}
+use Rattle.std.proofs.Common.{set, arith}
+use Rattle.std.proofs.lemmas.List.{length-set}
 use Rattle.cuts.proofs.adjacency.weights.add_link.Goals as goal
-use Rattle.cuts.proofs.Cells.{both_ways, one_way}
+use Rattle.cuts.proofs.Cells.{bumped, both_ways, one_way}
 
 pub returns-then-a-b : goal.returns-then-a-b
-returns-then-a-b c y u hy hu = omega (arith, c.bump-then-a-b.ensures y u hy hu, c.bump.ensures y u hy hu, both_ways (get_or c.args.groups.now.labels c.args.l.now.a 0) (get_or c.args.groups.now.labels c.args.l.now.b 0) y u c.if-a-b.true)
+returns-then-a-b c y u hy hu =
+    let m = c.args.m.now in
+    let low = c.args.groups.now.low _ c.args.l.now.low in
+    let high = c.args.groups.now.low _ c.args.l.now.high in
+    let first = bumped m _ _ _ y u (omega (arith, c.told-m, low)) (c.bump.ensures u hu) in
+    let second = bumped (set m _ _) _ _ _ y u (omega (arith, length-set m, c.told-m, high)) (c.bump-then-a-b.ensures u hu) in
+    omega (arith, first, second, both_ways _ _ y u c.if-a-b.true)
 
 pub returns-else-a-b : goal.returns-else-a-b
-returns-else-a-b c y u hy hu = omega (arith, c.bump.ensures y u hy hu, one_way (get_or c.args.groups.now.labels c.args.l.now.a 0) (get_or c.args.groups.now.labels c.args.l.now.b 0) y u c.if-a-b.false)
+returns-else-a-b c y u hy hu =
+    let low = c.args.groups.now.low _ c.args.l.now.low in
+    omega (arith, bumped c.args.m.now _ _ _ y u (omega (arith, c.told-m, low)) (c.bump.ensures u hu), one_way _ _ y u c.if-a-b.false)
