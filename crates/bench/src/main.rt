@@ -25,6 +25,8 @@ const RUN: Run = Run {
     length: 10,
 };
 
+// A pair of its own: those of the library are private to their crates, and these may be unlawful.
+
 /// The two devices that a cable joins.
 #[derive(Clone, Copy)]
 struct Ends {

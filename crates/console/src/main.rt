@@ -14,7 +14,7 @@ use std::alloc::AllocError;
 use std::io::{BufRead, BufReader, Split};
 
 /// The script so far: how many lines were read, and the score.
-#[derive(Drop)]
+#[derive(Default, Drop)]
 struct Progress {
     line: u64,
     score: Score,
@@ -69,7 +69,8 @@ fn set_up<R: BufRead + Drop>(
     Ok(false)
 }
 
-// The commands to a plan over the house, up to the end of the input.
+// The commands to a plan over the house, up to the end of the input. A loop of its own: a plan is moved through its commands, and a
+// setup is changed in place until one begins the plan.
 fn play_all<R: BufRead + Drop, H: House + Drop>(
     rt: &HostRuntime,
     lines: &mut Split<R>,
@@ -89,10 +90,7 @@ fn play_all<R: BufRead + Drop, H: House + Drop>(
 
 fn run(rt: &HostRuntime) -> anyhow::Result<()> {
     let mut lines = BufReader::new(rt.alloc(), rt.stdin())?.split(rt.alloc(), b'\n');
-    let mut progress = Progress {
-        line: 0,
-        score: Score::none(),
-    };
+    let mut progress = Progress::default();
     let mut setup = Setup::new(rt.alloc());
     if set_up(rt, &mut lines, &mut setup, &mut progress)? {
         play_all(rt, &mut lines, setup.house(), &mut progress)?;

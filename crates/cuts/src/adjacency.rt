@@ -31,6 +31,8 @@ struct Light {
     degree: u16,
 }
 
+// Links and groups, and no `Phase`: that asks for the best split so far, which is found from these.
+
 fn lightest_group(links: &Links, groups: &Groups) -> Light
     requires { 2 ≤ length groups.now.reps.items }
     ensures { Lightest (label groups.now.labels) links.now.list.items (length groups.now.reps.items) result.label result.degree }

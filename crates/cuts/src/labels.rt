@@ -9,6 +9,7 @@ pub fn own_labels() -> [u8; 128]
     ensures size { length result ≡ 128 }
     ensures own { (d : ℕ) → d < 128 → slice_index result d ≡ d }
 {
+    // Clauses say a length here, in `own_sheet`, `move_side`, `mark_all` and `stamp`: of an array handed back a proof does not know it.
     let mut labels = [0u8; 128];
     // By index: of a loop over `iter_mut().enumerate()` a proof knows nothing of what was written.
     for d in 0..128u8 {
@@ -16,6 +17,9 @@ pub fn own_labels() -> [u8; 128]
     }
     labels
 }
+
+// Flags by a test on the number, as `roots` and the `opposite` of a sheet set them too: one function of the three would take a closure,
+// and a clause about it.
 
 /// The devices with this label.
 pub fn labelled(labels: &[u8; 128], with: u8) -> Devices

@@ -61,8 +61,8 @@ pub enum Reply {
     NotYet,
 }
 
-// The strength, the count and the group's devices, rising. A function, since a `Display` would promise nothing: of what a
-// `write!` in a loop has written a proof knows nothing.
+// The strength, the count and the group's devices, rising. A function: a group is shown within a reply alone, and of what a `write!` in a
+// loop has written a proof knows nothing that a `Display` of its own could promise.
 fn show_group<W: fmt::Write>(group: &Group, f: &mut fmt::Formatter<W>) -> fmt::Result {
     let strength = group.strength;
     let count = group.count;

@@ -1,9 +1,8 @@
 ghost use Rattle.std.specs.Prelude.{◌≡◌, [], map};
-ghost use Rattle.houses.specs.Sheets.{meaning, counted, cables_of};
+ghost use Rattle.houses.specs.Sheets.{meaning, cables_of};
 ghost use Rattle.desk.specs.Setups.{sheet_reply, setup_reply, bytes_after, shift_after};
 
 use crate::reply::Reply;
-use houses::misread::Misread;
 use houses::sheet::Sheet;
 use houses::shift::Shift;
 use script::command::Command;
@@ -14,13 +13,6 @@ use std::alloc::Global;
 pub struct Setup {
     bytes: Vec<u8>,
     by: u8,
-}
-
-// A function, so that the sheet's borrow of the bytes ends before they are kept.
-fn survey(bytes: &[u8]) -> Result<u16, Misread>
-    ensures { result ≡ counted 0 (meaning bytes.now) }
-{
-    Sheet::empty().load(bytes)
 }
 
 impl Setup {
@@ -43,13 +35,16 @@ impl Setup {
         ensures by { self.new.by ≡ shift_after self.old.by command }
     {
         match command {
-            Command::House(bytes) => match survey(bytes.as_slice()) {
-                Ok(count) => {
-                    self.bytes = bytes;
-                    Reply::House(count)
+            Command::House(bytes) => {
+                let surveyed = Sheet::empty().load(bytes.as_slice());
+                match surveyed {
+                    Ok(count) => {
+                        self.bytes = bytes;
+                        Reply::House(count)
+                    }
+                    Err(misread) => Reply::Misread(misread),
                 }
-                Err(misread) => Reply::Misread(misread),
-            },
+            }
             Command::Shift(by) => {
                 self.by = by;
                 Reply::Shift(by)

@@ -50,6 +50,7 @@ pub fn play<H: House>(plan: Plan<H>, command: &Command) -> (Plan<H>, Reply)
                 let answer = closed.mark(*place);
                 (Plan::Closed(closed), told_mark(answer))
             }
+            // `not yet`, though `closed_reply` has the answers: a console was promised to say so.
             Command::Strength(_)
             | Command::Group(_)
             | Command::Run(_, _)

@@ -15,6 +15,8 @@ use crate::several::{one_label, one_of_several};
 use cuts::devices::Devices;
 use cuts::labels::own_labels;
 
+// `several` is required, and no type says it: the one caller has it from `one_of_several`, which answers a device of a set that is there already.
+
 /// Merges the forest best first, up to the cable that makes the devices one label.
 fn climb<E: Graded>(edges: &E, forest: &Forest, devices: &Devices, one: u8) -> Option<E::Grade>
     requires spans { Spans E.Grade.Grade.over (E.Graded.cables edges.now) (E.Graded.grade edges.now) (place_of forest.now) forest.now.count }

@@ -3,6 +3,7 @@ ghost use Rattle.std.specs.Prelude.{◌≡◌, ◌≤◌, length, MatchOption};
 ghost use Rattle.forest.specs.Crossings.{FoundAt, Best, Passed, Improves, Next, reached_by, beyond};
 
 // Clauses here name what a bound's type has in full, `E.Grade.Grade.over` and so on: a definition of specs/ has no bound to take it from.
+// Edges and labels go on side by side, and no struct of them: edges are a plan's, and labels a growth's that borrows them at each step.
 
 use crate::ends::Ends;
 use crate::grade::Grade;

@@ -15,6 +15,8 @@ use cuts::devices::Devices;
 use cuts::labels::{labelled, own_labels};
 use network::out_of_range;
 
+// Edges and a floor come from the caller of `joined`: a struct of them would be made for two steps alone.
+
 /// Merges the ends of the cable at a place, if its grade reaches the floor.
 fn take_in<E: Graded>(edges: &E, floor: E::Grade, place: u16, labels: &mut [u8; 128])
     requires { Labelled labels.old (ReachingUpTo E.Grade.Grade.over (E.Graded.cables edges.now) (E.Graded.grade edges.now) floor place) }

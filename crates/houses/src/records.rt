@@ -92,6 +92,7 @@ fn read_star(hub: u8, first: u8, count: u8, run: Option<Run>) -> Result<Record, 
 pub(crate) fn first_record(bytes: &[u8]) -> Result<(Record, &[u8]), Refusal>
     ensures { MatchResult result (λ p. (front bytes.now ≡ Ok p.0) × (p.1.now ≡ drop (suc (body (slice_index bytes.now 0))) bytes.now)) (λ e. front bytes.now ≡ Err e) }
 {
+    // Slice patterns, the form in which a format is wanted: each names a kind's number and the fields where the bytes have them.
     match bytes {
         [1, a, b, medium, high, low, rest @ ..] => {
             Ok((read_one(*a, *b, run_of(*medium, *high, *low))?, rest))

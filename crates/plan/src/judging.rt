@@ -74,7 +74,8 @@ pub(crate) fn first_fault(
 ) -> Option<Refusal>
     ensures { (l : List ℕ) → Names l (set_of devices.now) → FirstFault (table_cables table.now) l k (part_of parts.now) result }
 {
-    // A `loop`, since it breaks with the fault, which no `for` can; the cables that lead out are counted inside.
+    // A `loop` that breaks with the fault, with the cables that lead out counted inside: the form in which a judge is wanted. An `Option`,
+    // and no `Result`: a fault or none is what `FirstFault` speaks of, and `judge` makes the refusal of it.
     let mut part: u8 = 0;
     loop {
         if part > 127 {

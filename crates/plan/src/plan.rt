@@ -9,7 +9,7 @@ pub struct Open<H: House> {
     pub(crate) tour: Tour,
 }
 
-// No `impl Model`: the law over lives reads the invariants of a closed plan's table, which a model hides.
+// No `impl Model`: what the rules of a question speak of is `closed_cables`, and a model would be a second name of it.
 
 /// A plan that is questioned and does not change.
 #[derive(Drop)]

@@ -22,6 +22,8 @@ impl<H: House> Open<H> {
         }
     }
 
+    // A tag, two ends and a run, and no `TourCable`: the call is public, and stays as it was promised.
+
     /// Lays a tour cable after the others and answers the tour's new count. Refused, with nothing changed, where an end is no
     /// device, both ends are the same, the run is out of range, the tag is in the tour already, or the tour has 256 cables.
     pub fn lay(&mut self, tag: u16, a: u8, b: u8, run: Run) -> Result<u16, Refusal>

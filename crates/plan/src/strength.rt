@@ -1,6 +1,7 @@
 // The strength of a set of devices, from the marks of the cables. Up to `strength_of` these are figures as the definitions have them,
-// where 0 is the strength of a list that is apart, and no `Option`. A table and a set of devices are what a question is asked of and about:
-// they meet in these functions alone, and a clause `Names l ..` says of which lists an answer holds.
+// where 0 is the strength of a list that is apart, and no `Option`. A table and a set of devices stand side by side, here and in the other
+// questions, and no struct of them: one is the plan's, the other the question's. A clause `Names l ..` is no invariant of a set, since an
+// answer holds of every list that names its devices.
 ghost use Rattle.std.specs.Prelude.{◌≡◌, ℕ, true, ◌&&◌, List, if◌then◌else◌, nat_lt};
 ghost use Rattle.network.specs.Lists.{member, ListStrength};
 ghost use Rattle.network.specs.Sets.{DeviceSet};
@@ -21,6 +22,7 @@ use network::cable::MarkedCable;
 fn higher(highest: u16, row: &MarkedCable, device: u8) -> u16
     ensures { result ≡ (if touches row.now.cable device && nat_lt highest row.now.mark then row.now.mark else highest) }
 {
+    // One test, as the rule has it, and no `max`: that would stand behind the test of the ends all the same.
     if (row.cable.a == device || row.cable.b == device) && highest < row.mark {
         row.mark
     } else {
@@ -37,6 +39,9 @@ fn highest_mark(table: &Table, device: u8) -> u16
         .iter()
         .fold(0, |highest, row| higher(highest, row, device))
 }
+
+// `DeviceSet` is required here, in `poorest_run` and in the forest's `climb`, and no type says it: each has one call, behind
+// `one_of_several`, which answers a device of a set that is there already.
 
 // The highest mark whose cables, with all higher ones, join the devices; 0 where there is none.
 fn joining_mark(table: &Table, devices: &Devices) -> u16

@@ -30,6 +30,7 @@ impl Tour {
         if find(self.rows.as_slice(), tag).is_some() {
             return Err(Refusal::TagTaken);
         }
+        // A test, and no `try_push(..).map_err(..)?`: the rules of a lay stand one below the other, and a full tour is the last.
         if self.rows.is_full() {
             return Err(Refusal::TourFull);
         }

@@ -4,6 +4,8 @@ ghost use Rattle.script.specs.Words.{words, text};
 
 use std::alloc::{AllocError, Global};
 
+// A place, and no iterator of the words: a mistake is told by its place, and `end` asks what is left and takes nothing.
+
 /// The words of a line, and the place of the one to be read next. Places are counted from 1, and the one past the last word
 /// is a place too.
 #[derive(Drop)]

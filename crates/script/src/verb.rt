@@ -22,6 +22,8 @@ pub enum Verb {
     Judge,
 }
 
+// A type of its own, as for each kind of word: `FromStr` asks for an error, and its name says what was not known.
+
 /// A word that names no command.
 #[derive(Clone, Copy, PartialEq, Eq, Debug)]
 pub struct UnknownVerb;

@@ -5,6 +5,8 @@ ghost use Rattle.script.specs.Yardsticks.{yardstick_named};
 use crate::command::Yardstick;
 use std::str::FromStr;
 
+// An error of its own, as `UnknownVerb` is: one for all would not tell what was unknown.
+
 /// A word that stands for no yardstick.
 #[derive(Clone, Copy, PartialEq, Eq, Debug)]
 pub struct UnknownYardstick;

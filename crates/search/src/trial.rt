@@ -55,6 +55,7 @@ impl<'a, H: House> Trial<'a, H> {
 
     /// Writes each mark of the plan, with a space before it.
     pub fn write_marks(&self, rt: &HostRuntime) -> anyhow::Result<()> {
+        // By place, here, above, in bench and in the mark list: a plan is asked for one cable at a time.
         for marked in (0..self.closed.count()).filter_map(|place| self.closed.mark(place)) {
             print!(rt; " {}", marked.mark)?;
         }

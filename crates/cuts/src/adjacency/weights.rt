@@ -5,7 +5,8 @@ use crate::adjacency::groups::Groups;
 use crate::adjacency::link::Link;
 use crate::adjacency::links::Links;
 
-// Rooms and what a matrix counts are facts of these steps alone, which fill it or add it up: no invariant holds all along.
+// Rooms and what a matrix counts are required, and no type says them: while it is filled a matrix counts the links so far, and `order`
+// and `pair_up` have a full one from the one call in `shrink`.
 
 /// Adds one at column v of a row.
 fn bump(row: &mut [u16; 128], v: u8)
@@ -85,5 +86,5 @@ pub fn lightest(w: &[u16; 128], n: u8) -> u8
     ensures low { result < n }
     ensures least { (k : ℕ) → k < n → slice_index w.now result ≤ slice_index w.now k }
 {
-    (0..n).min_by_key(|v| w[*v as usize]).unwrap_or(0)
+    (0..n).min_by_key(|v| w[*v as usize]).unwrap()
 }

@@ -20,9 +20,7 @@ impl Rig {
     pub fn push(&mut self, cable: Cable) -> Result<(), Unfit>
         ensures { Pushed (rig_cables self.old) cable (rig_cables self.new) result }
     {
-        if cable.check().is_err() {
-            return Err(Unfit::Unlawful);
-        }
+        cable.check().map_err(|_| Unfit::Unlawful)?;
         self.cables.try_push(cable).map_err(|_| Unfit::Full)
     }
 
