@@ -1,6 +1,6 @@
 use Rattle.std.proofs.Common.{◌≤◌, length, arith}
 use Rattle.cuts.proofs.Membership.{held_low}
-use Rattle.cuts.proofs.Merging.{merging_none, merging_lower, merging_more, merging_low, merging_all}
+use Rattle.cuts.proofs.Merging.{merging_none, merging_lower, merging_more, merging_all}
 use Rattle.cuts.proofs.adjacency.weakest_split.Goals as goal
 
 pub loop-best-init : goal.loop-best-init
@@ -25,6 +25,3 @@ loop-best-preserved c = (
   λ v h. omega (arith, c.if-light-best.false, c.lightest_group-light.ensures.least v h),
   merging_more _ _ _ _ c.loop-best.invariant.2 _ c.requires.ends c.coarser-groups.ensures,
 )
-
-pub returns : goal.returns
-returns c = merging_low _ _ _ _ c.loop-best.invariant.2 c.args.floor c.loop-best-test.false

@@ -1,23 +1,11 @@
-use Rattle.std.proofs.Common.{sym, refl, ◌∙◌, inl, inr, arith}
-use Rattle.std.proofs.lemmas.List.Sums.{count_by_more_yes, count_by_more_no}
-use Rattle.network.specs.Sheets.{leads_up}
+use Rattle.std.proofs.Common.{refl, inl, inr, arith}
 use Rattle.plan.specs.Judging.{part_of, Sound}
 use Rattle.plan.specs.Tables.{rows_of, table_cables}
-use Rattle.plan.proofs.Faults.{unused, row_lawful, leading_all, below_next}
-use Rattle.plan.proofs.judging.first_fault.Goals.{then-leads_out, else-leads_out}
+use Rattle.plan.proofs.Faults.{row_lawful, leading_all, below_next}
 use Rattle.plan.proofs.judging.first_fault.Goals as goal
 
 pub leads_out-requires : goal.leads_out-requires
 leads_out-requires c = row_lawful c.rows-row-items.result.now c.rows-row-items.ensures.lawful c.loop-row.row-index c.loop-row-test.true
-
-pub loop-row-preserved : goal.loop-row-preserved
-loop-row-preserved c =
-    let rows = c.rows-row-items.result.now in
-    let i = c.loop-row.row-index in
-    elim c.if-leads_out.branch [
-      | then-leads_out w ↦ (w.leading-is ∙ omega (arith, c.loop-row.invariant.0, count_by_more_yes (λ r. leads_up (part_of c.args.parts.now) c.loop-part.part r.cable) rows i unused c.loop-row-test.true (sym w.if-leads_out.ensures)), omega (arith, w.leading-is, c.loop-row.invariant.1))
-      | else-leads_out w ↦ (w.leading-is ∙ omega (arith, c.loop-row.invariant.0, count_by_more_no (λ r. leads_up (part_of c.args.parts.now) c.loop-part.part r.cable) rows i unused c.loop-row-test.true (sym w.if-leads_out.ensures)), omega (arith, w.leading-is, c.loop-row.invariant.1))
-    ]
 
 pub loop-part-preserved : goal.loop-part-preserved
 loop-part-preserved c =

@@ -8,9 +8,6 @@ use Rattle.plan.proofs.Checking.{some_says, none_says, both_say, names_devices}
 use Rattle.plan.proofs.Strengths.{several_strength, lone_strength}
 use Rattle.plan.proofs.strength.figure_of.Goals as goal
 
-pub joining_mark-requires : goal.joining_mark-requires
-joining_mark-requires c = (some_says _ _ c.one_of_several.result (sym c.is_some.ensures ∙ c.if-is_some.true) c.one_of_several.ensures).1.0
-
 pub returns-then-is_some : goal.returns-then-is_some
 returns-then-is_some c l x names i =
     let one = some_says _ _ c.one_of_several.result (sym c.is_some.ensures ∙ c.if-is_some.true) c.one_of_several.ensures in

@@ -1,18 +1,11 @@
-use Rattle.std.proofs.Common.{◌≤◌, ◌++◌, ◌-◌, ◌∷◌, [], List, length, replicate, set, sym, ap, ap₂, ◌∙◌, subst, ⊎_elim, arith}
+use Rattle.std.proofs.Common.{◌≤◌, ◌++◌, ◌-◌, ◌∷◌, [], List, length, set, sym, ap, ap₂, ◌∙◌, ⊎_elim, arith}
 use Rattle.std.proofs.lemmas.Bool.{eqb-true, eqb-false, cases_lt}
 use Rattle.std.proofs.lemmas.List.{length-map}
 use Rattle.cuts.specs.declared.adjacency.order.Place.{Place}
-use Rattle.cuts.specs.Links.{label}
-use Rattle.cuts.specs.Orders.{labels_of, weights_of}
 use Rattle.cuts.proofs.Phases.{placed_at}
-use Rattle.cuts.proofs.Fusing.{Upon, upon_none, upon_new, upon_same, upon_all, upon_at, place_low, label_at, weight_at}
+use Rattle.cuts.proofs.Fusing.{upon_new, upon_same, upon_all, upon_at, place_low, label_at, weight_at}
 use Rattle.cuts.proofs.adjacency.fusion.fuse.Goals as goal
 use Rattle.cuts.proofs.adjacency.fusion.fuse.Goals.{then-is_empty, then-is_empty-via-then-is_empty, then-is_empty-via-else-is_empty+then-place-phase, else-is_empty+else-place-phase}
-
-pub loop-place-init : goal.loop-place-init
-loop-place-init c =
-    subst (λ xs. Upon (label c.args.phase.now.groups.now.labels) c.args.phase.now.links.now.list.items c.args.phase.now.best (labels_of c.args.order.now.items) (weights_of c.args.order.now.items) (replicate 128 0) xs 0 (length xs))
-    (sym c.new-firsts.ensures) (upon_none _ _ _ _ _ _ c.requires)
 
 pub loop-place-preserved : goal.loop-place-preserved
 loop-place-preserved c =

@@ -8,11 +8,6 @@ use Rattle.cuts.proofs.adjacency.fusion.shrink.Goals as goal
 pub add_links-requires : goal.add_links-requires
 add_links-requires c = record { empty = λ y u hy hu. ap (λ r. get_or r u 0) (get_or-replicate {A = List ℕ} 128 y (replicate 128 0) [] hy) ∙ get_or-replicate {A = ℕ} 128 u 0 0 hu }
 
-pub returns-then-len-n : goal.returns-then-len-n
-returns-then-len-n c =
-    let p = c.args.phase.now in
-    fused_less _ _ _ _ _ _ _ _ (last_least _ _ _ _ _ c.order.ensures _ (λ d h. p.groups.now.numbered d h (omega (arith, p.two))) (omega (arith, p.two)) p.least) c.fuse-fused.ensures
-
 pub returns-then-len : goal.returns-then-len
 returns-then-len c =
     let p = c.args.phase.now in

@@ -1,6 +1,6 @@
-use Rattle.std.proofs.Common.{length, replicate, sym, ap, ◌∙◌, subst, set, arith}
+use Rattle.std.proofs.Common.{length, replicate, sym, ap, ◌∙◌, subst, set}
 use Rattle.cuts.specs.Links.{flagged}
-use Rattle.cuts.proofs.Numbering.{Numbering, numbering_none, numbering_yes, numbering_no, numbering_all, numbering_at, numbered_low, numbered_below}
+use Rattle.cuts.proofs.Numbering.{Numbering, numbering_none, numbering_yes, numbering_no, numbering_at}
 use Rattle.cuts.proofs.adjacency.grouping.number.Goals as goal
 use Rattle.cuts.proofs.adjacency.grouping.number.Goals.{then-is_in, else-is_in}
 
@@ -14,11 +14,3 @@ loop-d-preserved c =
           (numbering_yes _ _ _ _ _ c.loop-d.invariant c.loop-d-test.true w.if-is_in.true)
       | else-is_in w ↦ numbering_at _ _ _ _ _ _ _ w.labels-is (ap (λ v. v.items) w.reps-is) (numbering_no _ _ _ _ _ c.loop-d.invariant c.loop-d-test.true w.if-is_in.false)
     ]
-
-pub returns : goal.returns
-returns c = numbering_all _ c.loop-d.d _ _ _ (omega arith) c.loop-d.invariant
-
-pub invariant_of-result : goal.invariant_of-result
-invariant_of-result c =
-    let all = numbering_all _ c.loop-d.d _ _ _ (omega arith) c.loop-d.invariant in
-    record { fits = all.fits; low = numbered_low _ _ _ _ all; numbered = numbered_below _ _ _ _ all }

@@ -1,20 +1,13 @@
 use Rattle.std.proofs.Common.{◌+◌, ◌<◌, false, get_or, replicate, set, sym, refl, ap, ◌∙◌, subst, arith}
-use Rattle.std.proofs.lemmas.List.Sums.{count_by-le-length}
-use Rattle.cuts.specs.Orders.{toward, flags}
+use Rattle.cuts.specs.Orders.{flags}
 use Rattle.cuts.specs.Phases.{label_in, links_in, count_in}
-use Rattle.cuts.proofs.Placing.{Placing, placed, lefts, placing_none, placing_more, placing_next, placing_all, cleared}
+use Rattle.cuts.proofs.Placing.{Placing, lefts, placing_none, placing_more, placing_next, placing_all}
 use Rattle.cuts.proofs.adjacency.order.order.Goals as goal
 
 pub loop-label-init : goal.loop-label-init
 loop-label-init c =
     let p = c.args.phase.now in
     subst (λ ps. Placing (label_in p) (links_in p) (lefts (replicate 128 2048) (count_in p)) (replicate 128 2048) ps (count_in p)) (sym c.new-places.ensures) (placing_none _ _ _ p.groups.now.fits)
-
-pub add_row-requires-clause-room : goal.add_row-requires-clause-room
-add_row-requires-clause-room c v h =
-    let p = c.args.phase.now in
-    cleared c.loop-label.w c.in-Some.label v 4096 (omega (arith, c.in-Some.ensures.0, c.len-n.ensures, p.groups.now.fits, c.loop-label.invariant.long_w))
-    (omega (arith, c.loop-label.invariant.bound v h, count_by-le-length (toward (label_in p) (placed c.loop-label.places.items) v) (links_in p), p.links.now.few))
 
 -- one turn
 turn : (c : goal.After-add_row)

@@ -1,5 +1,4 @@
-use Rattle.std.proofs.Common.{◌<◌, subst, arith, ◌∙◌}
-use Rattle.std.proofs.lemmas.List.{length-set}
+use Rattle.std.proofs.Common.{◌<◌, subst, arith}
 use Rattle.cuts.specs.Members.{set_of}
 use Rattle.cuts.specs.Rigs.{rig_cables}
 use Rattle.marks.specs.Shedding.{inside, Shear, Marking}
@@ -21,13 +20,6 @@ bounds-self-self c = low (goal.at.bounds-self-self c).After-max-m
 
 pub overflow_add-self : goal.overflow_add-self
 overflow_add-self c = omega (arith, low (goal.at.overflow_add-self c).After-max-m)
-
-pub invariant_of-self : goal.invariant_of-self
-invariant_of-self c = record {
-  long_part = c.move_side.ensures.long;
-  long_floor = length-set _ _ _ ∙ length-set _ _ _ ∙ c.args.self.now.long_floor;
-  long_marks = c.stamp.ensures.long;
-}
 
 pub returns-clause-split : goal.returns-clause-split
 returns-clause-split c =

@@ -1,34 +1,8 @@
-use Rattle.std.proofs.Common.{cond, ltb, length, Ok, sym, ap, ◌∙◌}
-use Rattle.network.specs.Refusals.{refuse}
-use Rattle.network.specs.declared.refusal.Refusal.TheVariants.{BufferTooShort}
-use Rattle.plan.specs.Questions.{GroupIs}
-use Rattle.plan.specs.Tests.{buffer_check}
+use Rattle.std.proofs.Common.{cond, length, sym, ap, ◌∙◌}
 use Rattle.plan.specs.Tables.{closed_cables}
-use Rattle.plan.proofs.Checking.{listed_one, buffer_tested, gives_err, refused_gives, refused_writes}
+use Rattle.plan.proofs.Checking.{listed_one, buffer_tested}
 use Rattle.plan.proofs.Grouping.{above_none, group_told}
 use Rattle.plan.proofs.plan.Closed.group.Goals as goal
-
-pub returns-in_err-devices : goal.returns-in_err-devices
-returns-in_err-devices g c =
-    let l = c.args.list.now in
-    let bs = c.args.buffer.now in
-    let e = c.in_err-devices.field-0.0 in
-    let exit = c.from_residual.ensures.1 in
-    record {
-      answer = refused_gives l (refuse BufferTooShort (ltb (length bs) 128) (Ok tt)) (GroupIs (closed_cables c.args.self.now) l bs) e c.from_residual.result exit c.in_err-devices.ensures;
-      buffer = refused_writes e c.from_residual.result bs exit;
-    }
-
-pub returns-in_err-has_room : goal.returns-in_err-has_room
-returns-in_err-has_room g c =
-    let l = c.args.list.now in
-    let bs = c.args.buffer.now in
-    let e = c.in_err-has_room.field-0.0 in
-    let exit = c.from_residual-in_err-has_room.ensures.1 in
-    record {
-      answer = gives_err (GroupIs (closed_cables c.args.self.now) l bs) (buffer_check l (length bs)) e c.from_residual-in_err-has_room.result exit (buffer_tested l (length bs) c.in_ok-devices.ensures.0 ∙ sym c.in_err-has_room.ensures);
-      buffer = refused_writes e c.from_residual-in_err-has_room.result bs exit;
-    }
 
 pub returns-in_default : goal.returns-in_default
 returns-in_default g c =

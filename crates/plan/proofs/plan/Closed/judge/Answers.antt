@@ -1,22 +1,8 @@
-use Rattle.std.proofs.Common.{Some, None, Err, sym, ap, ◌∙◌, subst}
-use Rattle.std.proofs.lemmas.Result.{err_from_is_err_and}
+use Rattle.std.proofs.Common.{Some, None, subst}
 use Rattle.plan.specs.Tables.{closed_cables}
 use Rattle.plan.specs.Judging.{part_of, FirstFault}
-use Rattle.plan.proofs.Verdicts.{parts_low, sheet_list, sheet_bad, sheet_fits, judge_tested, judge_faulty, judge_good}
+use Rattle.plan.proofs.Verdicts.{parts_low, sheet_fits, judge_faulty, judge_good}
 use Rattle.plan.proofs.plan.Closed.judge.Goals as goal
-
-pub returns-in_err-devices : goal.returns-in_err-devices
-returns-in_err-devices g c =
-    let s = c.args.self.now in
-    let p = err_from_is_err_and c.from_residual.result c.from_residual.ensures.1 in
-    rw (p.1, p.2) (judge_tested (closed_cables s) c.args.list.now c.args.k c.args.sheet.now s.table.lawful _ (sheet_list c.args.list.now c.args.sheet.now _ c.in_err-devices.ensures))
-
-pub returns-in_err-parts : goal.returns-in_err-parts
-returns-in_err-parts g c =
-    let s = c.args.self.now in
-    let p = err_from_is_err_and c.from_residual-in_err-parts.result c.from_residual-in_err-parts.ensures.1 in
-    let bad = sheet_bad c.args.list.now c.args.sheet.now c.in_ok-devices.ensures.0 c.in_err-parts.ensures.0 ∙ ap Err (sym c.in_err-parts.ensures.1) in
-    rw (p.1, p.2) (judge_tested (closed_cables s) c.args.list.now c.args.k c.args.sheet.now s.table.lawful _ bad)
 
 pub returns-in-Some : goal.returns-in-Some
 returns-in-Some g c =

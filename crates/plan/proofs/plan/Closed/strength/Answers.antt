@@ -1,14 +1,5 @@
-use Rattle.std.proofs.Common.{Ok}
-use Rattle.plan.specs.Questions.{StrengthIs}
-use Rattle.plan.specs.Tables.{closed_cables}
-use Rattle.plan.proofs.Checking.{listed_one, refused_gives}
+use Rattle.plan.proofs.Checking.{listed_one}
 use Rattle.plan.proofs.plan.Closed.strength.Goals as goal
-
-pub returns-in_err-devices : goal.returns-in_err-devices
-returns-in_err-devices g c =
-    let l = c.args.list.now in
-    refused_gives l (Ok tt) (StrengthIs (closed_cables c.args.self.now) l)
-    c.in_err-devices.field-0.0 c.from_residual.result c.from_residual.ensures.1 c.in_err-devices.ensures
 
 pub returns : goal.returns
 returns g c =
