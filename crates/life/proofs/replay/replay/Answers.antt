@@ -1,16 +1,11 @@
 -- Turn by turn the calls with their answers are a life of the begun plan, and the law tells it. Assumes nothing.
 use Rattle.std.proofs.Common.{◌≡◌, length, vec_items, ◌∙◌, arith}
-use Rattle.std.proofs.lemmas.Result.{err_from_is_err_and}
 use Rattle.plan.specs.declared.state.Plan.TheVariants as plan
 use Rattle.life.specs.Lives.{Life}
 use Rattle.life.specs.Scripts.{row}
 use Rattle.life.proofs.Lives.{life_law}
-use Rattle.life.proofs.Scripts.{come_none, come_more, come_all}
+use Rattle.life.proofs.Scripts.{come_more, come_all}
 use Rattle.life.proofs.replay.replay.Goals as goal
-
-pub loop-call-init : goal.loop-call-init
-loop-call-init g c =
-    come_none g.H.House.cables g.Y.Grade.Grade.over (λ _. g.Y.Yardstick.graded) (plan.Open c.begin.result) c.args.script.now _ c.new-answers.ensures.items
 
 pub loop-call-preserved : goal.loop-call-preserved
 loop-call-preserved g c =
@@ -31,10 +26,3 @@ returns g c =
       told = life_law cables over (λ _. g.Y.Yardstick.graded) c.args.house p (row script (vec_items l.answers)) c.begin.ensures life;
       life = (p, (c.begin.ensures, life));
     }
-
-pub returns-in_err-after : goal.returns-in_err-after
-returns-in_err-after g c = let p = err_from_is_err_and c.from_residual.result c.from_residual.ensures.1 in rw p.1 tt
-
-pub returns-in_err-push : goal.returns-in_err-push
-returns-in_err-push g c =
-    let p = err_from_is_err_and c.from_residual-in_err-push.result c.from_residual-in_err-push.ensures.1 in rw p.1 tt
