@@ -14,7 +14,7 @@ use std::alloc::AllocError;
 use std::io::{BufRead, BufReader, Split};
 
 /// The script so far: how many lines were read, and the score.
-#[derive(Default, Drop)]
+#[derive(Drop)]
 struct Progress {
     line: u64,
     score: Score,
@@ -90,7 +90,10 @@ fn play_all<R: BufRead + Drop, H: House + Drop>(
 
 fn run(rt: &HostRuntime) -> anyhow::Result<()> {
     let mut lines = BufReader::new(rt.alloc(), rt.stdin())?.split(rt.alloc(), b'\n');
-    let mut progress = Progress::default();
+    let mut progress = Progress {
+        line: 0,
+        score: Score::none(),
+    };
     let mut setup = Setup::new(rt.alloc());
     if set_up(rt, &mut lines, &mut setup, &mut progress)? {
         play_all(rt, &mut lines, setup.house(), &mut progress)?;

@@ -44,9 +44,9 @@ module _ (cs : List Cable) (S : ℕ → Bool) (links : List Link) (i : ℕ) (z :
 pub keeps_all : (cs : List Cable) (S : ℕ → Bool) (x : List Link) (i : ℕ) → length cs ≤ i → Keeps (take i cs) S x → Keeps cs S x
 keeps_all cs S x i h p = subst (λ z. Keeps z S x) (take_all i cs h) p
 
-pub finds_from : (cs : List Cable) (S : ℕ → Bool) (links : List Link) (floor k : ℕ) (side : ℕ → Bool) → Keeps cs S links → Weakest links S floor k side → Finds cs S floor k side
-finds_from cs S links floor k side p w = record {
+pub finds_from : (cs : List Cable) (S : ℕ → Bool) (links : List Link) (low floor k : ℕ) (side : ℕ → Bool) → low ≤ floor → Keeps cs S links → Weakest links S low k side → Finds cs S floor k side
+finds_from cs S links low floor k side below p w = record {
   split = w.split;
   attained = sym (p.same side) ∙ w.attained;
-  least = λ above A s. omega (arith, p.same A, w.least above A s);
+  least = λ above A s. omega (arith, p.same A, w.least (omega arith) A s);
 }

@@ -6,3 +6,4 @@ pub mod reply;
 pub mod score;
 pub mod setup;
 pub mod stage;
+pub mod state;

@@ -2,9 +2,10 @@
 --   number xs d             the number at d, and 0 past the end
 --   moved p q side r        the part r, or q where r is p and the side is true
 --   State cs part floor mark n   floors, marks and numbers of the parts are right
+--   Holds part p S          the devices of the set S are those of part p
 --   Done part p             each part below p has one device at most
 --   SplitUp cs s p          the parts s are right, and done below p
-use Rattle.std.specs.Prelude.{ℕ, ◌<◌, Bool, cond, ◌&&◌, List, ◌==◌, slice_index}
+use Rattle.std.specs.Prelude.{◌≡◌, ℕ, ◌<◌, Bool, cond, ◌&&◌, List, ◌==◌, slice_index}
 use Rattle.network.specs.Sheets.{Lone}
 use Rattle.network.specs.declared.cable.Cable.{Cable}
 use Rattle.marks.specs.Shedding.{Shed, MarkedApart, Numbered}
@@ -20,6 +21,9 @@ pub record State (cs : List Cable) (part floor mark : List ℕ) (n : ℕ) : Type
   pub shed : Shed cs (number part) (number floor)
   pub marked : MarkedApart cs (number part) (number mark)
   pub parts : Numbered (number part) n
+
+abbrev pub Holds : (part : ℕ → ℕ) (p : ℕ) (S : ℕ → Bool) → Type 0
+Holds part p S = (d : ℕ) → d < 128 → S d ≡ (part d == p)
 
 abbrev pub Done : (part : ℕ → ℕ) → ℕ → Type 0
 Done part p = (r : ℕ) → r < p → Lone part r

@@ -14,6 +14,17 @@ use cuts::devices::Devices;
 use cuts::finder::Finder;
 use cuts::rig::Rig;
 
+/// The devices of a part: those that the parts label with its number.
+pub use cuts::labels::labelled as inside_of;
+
+/// All devices in part 0.
+pub fn one_part() -> [u8; 128]
+    ensures long { length result ≡ 128 }
+    ensures zero { (d : ℕ) → number result d ≡ 0 }
+{
+    [0; 128]
+}
+
 /// The devices of part p on the side go to q.
 pub fn move_side(part: &mut [u8; 128], side: &Devices, p: u8, q: u8)
     ensures parts { (d : ℕ) → d < 128 → number part.new d ≡ moved p q (set_of side.now d) (number part.old d) }

@@ -22,23 +22,23 @@ use Rattle.forest.specs.Labels.{Tells}
 use Rattle.plan.specs.Judging.{Small, Sound, Faulty}
 
 -- whether a device below n is in part p; if so there is one
-abbrev Seen : (part : ℕ → ℕ) → (p n : ℕ) → Bool → Type 0
+abbrev pub Seen : (part : ℕ → ℕ) → (p n : ℕ) → Bool → Type 0
 Seen part p n false = (k : ℕ) → k < n → part k ≡ p → ⊥
 Seen part p n true = (x : ℕ) × (x < n) × (part x ≡ p) × ((k : ℕ) → k < n → part k ≡ p → k ≡ x)
 
 module _ (part : ℕ → ℕ) (p n : ℕ) where
-  seen_other : (b : Bool) → (part n ≡ p → ⊥) → Seen part p n b → Seen part p (n + 1) b
+  pub seen_other : (b : Bool) → (part n ≡ p → ⊥) → Seen part p n b → Seen part p (n + 1) b
   seen_other false ne s = λ k h e. ⊎_elim (λ lt. s k lt e) (λ le. let q : n ≡ k = omega arith in ne (ap part q ∙ e)) (cases_lt k n)
   seen_other true ne s =
       (s.0, omega (arith, s.1), s.2, λ k h e. ⊎_elim (λ lt. s.3 k lt e) (λ le. let q : n ≡ k = omega arith in absurd (ne (ap part q ∙ e))) (cases_lt k n))
 
-  seen_first : part n ≡ p → Seen part p n false → Seen part p (n + 1) true
+  pub seen_first : part n ≡ p → Seen part p n false → Seen part p (n + 1) true
   seen_first e s = (n, omega arith, e, λ k h f. ⊎_elim (λ lt. absurd (s k lt f)) (λ le. omega arith) (cases_lt k n))
 
-  seen_twice : n < 128 → part n ≡ p → Seen part p n true → Lone part p → ⊥
+  pub seen_twice : n < 128 → part n ≡ p → Seen part p n true → Lone part p → ⊥
   seen_twice h e s lone = omega (arith, s.1, lone s.0 n (omega (arith, s.1)) h s.2 e)
 
-  seen_all : 128 ≤ n → (b : Bool) → Seen part p n b → Lone part p
+  pub seen_all : 128 ≤ n → (b : Bool) → Seen part p n b → Lone part p
   seen_all h false s = λ x y lx ly ex ey. absurd (s x (omega arith) ex)
   seen_all h true s = λ x y lx ly ex ey. s.3 x (omega arith) ex ∙ sym (s.3 y (omega arith) ey)
 

@@ -28,7 +28,7 @@ pushed old new c (Err Unlawful) lawful room p = absurd (p.0 lawful)
 pushed old new c (Err Full) lawful room p = absurd (omega (arith, p.1))
 
 -- one place more of a house
-taken_more : (cs old new : List Cable) (i : ℕ) (c : Cable) → slice_get cs i ≡ Some c → i < length cs → old ≡ take i cs → new ≡ old ++ c ∷ [] → new ≡ take (i + 1) cs
+pub taken_more : (cs old new : List Cable) (i : ℕ) (c : Cable) → slice_get cs i ≡ Some c → i < length cs → old ≡ take i cs → new ≡ old ++ c ∷ [] → new ≡ take (i + 1) cs
 taken_more cs old new i c at h e f =
     let g : get_or cs i blank ≡ c = found in
     f ∙ ap₂ (λ xs x. xs ++ x ∷ []) e (sym g) ∙ sym (take_more cs i blank h)

@@ -9,6 +9,5 @@ pub mod Reading
 pub mod Runs
 pub mod Touches
 pub mod Strengths
-pub mod Mapping
 pub mod Bytes
 pub mod Grouping

@@ -41,13 +41,13 @@ table_marks t i c st =
     subst (λ k. ListStrength (cables_in rows) (ends c) k) (sym (ap mark_of s.1)) (subst (λ d. ListStrength (cables_in rows) (ends d) s.0.mark) s.2 m)
 
 module _ (cs : List Cable) (mark : ℕ → ℕ) (D : ℕ → Bool) where
-  poorest_joining : (k : ℕ) → Poorest (λ a b. leb b a) cs mark D (Some k) → Joining cs mark D k
+  pub poorest_joining : (k : ℕ) → Poorest (λ a b. leb b a) cs mark D (Some k) → Joining cs mark D k
   poorest_joining k (join, best) = (
     (λ pos x y ix iy. linked_map (λ c p. (strong_reaches cs mark k c).0 p) (join x y ix iy)),
     (λ more. omega (arith, leb-true (suc k) k (best (suc k) (λ x y ix iy. linked_map (λ c p. (strong_reaches cs mark (suc k) c).1 p) (more x y ix iy))))),
   )
 
-  none_joining : Poorest (λ a b. leb b a) cs mark D None → Joining cs mark D 0
+  pub none_joining : Poorest (λ a b. leb b a) cs mark D None → Joining cs mark D 0
   none_joining apart = (
     (λ pos. absurd (omega arith)),
     (λ more. apart (λ x y ix iy. linked_map (λ c p. (p.0, p.1)) (more x y ix iy))),

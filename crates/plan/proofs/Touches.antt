@@ -31,15 +31,15 @@ touches_says c x t = ⊎_elim
     (or_cases (eqb c.a x) (eqb c.b x) t)
 
 -- k is the highest mark of the cables at x among the first n
-record Sofar (rows : List MarkedCable) (x n k : ℕ) : Type 0 where
+pub record Sofar (rows : List MarkedCable) (x n k : ℕ) : Type 0 where
   pub found : 0 < k → Touched (Strong (cables_in rows) (mark_at rows) k) x
   pub above : (i : ℕ) (c : Cable) → i < n → slice_get (cables_in rows) i ≡ Some c → touches c x ≡ true → mark_at rows i ≤ k
 
 module _ (rows : List MarkedCable) (x : ℕ) where
-  sofar_none : Sofar rows x 0 0
+  pub sofar_none : Sofar rows x 0 0
   sofar_none = record { found = λ h. absurd (omega arith); above = λ i c h st t. absurd (omega arith) }
 
-  sofar_more : (n k : ℕ) (r : MarkedCable) → Some r ≡ slice_get rows n → Sofar rows x n k
+  pub sofar_more : (n k : ℕ) (r : MarkedCable) → Some r ≡ slice_get rows n → Sofar rows x n k
       → (j : ℕ) → j ≡ cond (touches r.cable x && ltb k r.mark) r.mark k → Sofar rows x (n + 1) j
   sofar_more n k r e was j is = ⊎_elim taken left (cases_Bool test)
     where

@@ -3,7 +3,7 @@ ghost use Rattle.network.specs.Cables.{Lawful};
 ghost use Rattle.arrayvec.specs.ArrayVec.{array_vec_len};
 
 use arrayvec::ArrayVec;
-use network::cable::TourCable;
+pub use network::cable::TourCable;
 
 /// The tour's cables in laying order, at most 256, all lawful.
 #[derive(Drop)]

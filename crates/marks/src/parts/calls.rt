@@ -5,10 +5,10 @@ ghost use Rattle.cuts.specs.Finding.{Finds};
 ghost use Rattle.cuts.specs.Members.{set_of};
 ghost use Rattle.cuts.specs.Rigs.{rig_cables};
 ghost use Rattle.marks.specs.Shedding.{inside, Marking};
-ghost use Rattle.marks.specs.State.{number, SplitUp};
+ghost use Rattle.marks.specs.State.{number, Holds, SplitUp};
 
-use crate::move_side;
 use crate::parts::Parts;
+use crate::{move_side, one_part};
 use cuts::devices::Devices;
 use cuts::finder::{Cut, Finder};
 use cuts::labels::labelled;
@@ -42,7 +42,7 @@ impl Parts {
     {
         Parts {
             count: 1,
-            part: [0; 128],
+            part: one_part(),
             floor: [0; 128],
             marks: [0; 512],
         }
@@ -54,24 +54,26 @@ impl Parts {
         requires split { SplitUp (rig_cables rig.now) self.old p }
         ensures { SplitUp (rig_cables rig.now) self.new (p + 1) }
     {
-        while let Some(cut) = finder.find(rig, &labelled(&self.part, p), self.floor[p as usize]) {
-            self.shed(rig, p, &cut);
+        let mut set = labelled(&self.part, p);
+        while let Some(cut) = finder.find(rig, &set, self.floor[p as usize]) {
+            self.shed(rig, p, &set, &cut);
+            set = labelled(&self.part, p);
         }
     }
 
-    // A cut of part p: the devices on its side become a part of their own. The cables across get its crossings as their mark, or
-    // the floor of part p if that is higher, and the two parts get the same as their floor.
-    fn shed(&mut self, rig: &Rig, p: u8, cut: &Cut)
+    // A cut of part p, whose devices are the set: those on the cut's side become a part of their own. The cables across get its crossings
+    // as their mark, or the floor of part p if that is higher, and the two parts get the same as their floor.
+    fn shed(&mut self, rig: &Rig, p: u8, set: &Devices, cut: &Cut)
         requires low { p < 128 }
         requires split { SplitUp (rig_cables rig.now) self.old p }
+        requires set { Holds (number self.old.part) p (set_of set.now) }
         requires found { Finds (rig_cables rig.now) (inside (number self.old.part) p) (number self.old.floor p) cut.now.crossings (set_of cut.now.side) }
         ensures split { SplitUp (rig_cables rig.now) self.new p }
         ensures more { self.new.count ≡ self.old.count + 1 }
     {
-        let set = labelled(&self.part, p);
         let low = self.floor[p as usize];
         let m = low.max(cut.crossings);
-        stamp(&mut self.marks, rig, &set, &cut.side, m);
+        stamp(&mut self.marks, rig, set, &cut.side, m);
         move_side(&mut self.part, &cut.side, p, self.count);
         self.floor[p as usize] = m;
         self.floor[self.count as usize] = m;

@@ -27,7 +27,7 @@ returns-clause-split c =
     let cs = rig_cables c.args.rig.now in
     let side = set_of c.args.cut.now.side in
     let sh = sheared (goal.at.returns-clause-split c).After-max-m in
-    let marking = subst (λ S. Marking cs S c.max-m.result side (number s.marks) (number c.stamp.new.marks)) (inside_is s.part c.args.p c.labelled-set.result c.labelled-set.ensures) c.stamp.ensures.marking in
+    let marking = subst (λ S. Marking cs S c.max-m.result side (number s.marks) (number c.stamp.new.marks)) (inside_is s.part c.args.p c.args.set.now c.requires.set) c.stamp.ensures.marking in
     record {
       state = state_more cs s.part c.move_side.new.part s.floor s.marks c.stamp.new.marks c.args.p s.count c.max-m.result side s.long_floor c.args.rig.now.lawful c.requires.split.state sh
           c.move_side.ensures.parts marking;

@@ -5,7 +5,7 @@ use Rattle.marks.proofs.Turns.{found_inside, uncut_lone, done_more, state_few}
 use Rattle.marks.proofs.parts.Parts.split_up.Goals as goal
 
 pub shed-requires-clause-found : goal.shed-requires-clause-found
-shed-requires-clause-found g c = found_inside _ c.loop-cut.self.part c.args.p _ _ c.labelled.result _ c.labelled.ensures c.in-Some.ensures.1
+shed-requires-clause-found g c = found_inside _ c.loop-cut.self.part c.args.p _ _ c.loop-cut.set _ c.loop-cut.invariant.1 c.in-Some.ensures.1
 
 pub loop-cut-smaller : goal.loop-cut-smaller
 loop-cut-smaller g c =
@@ -15,4 +15,4 @@ loop-cut-smaller g c =
 pub returns : goal.returns
 returns g c =
     let l = c.loop-cut in
-    record { state = l.invariant.state; done = done_more (number l.self.part) c.args.p l.invariant.done (uncut_lone l.self.part c.args.p c.labelled.result c.labelled.ensures c.in_default.ensures) }
+    record { state = l.invariant.0.state; done = done_more (number l.self.part) c.args.p l.invariant.0.done (uncut_lone l.self.part c.args.p l.set l.invariant.1 c.in_default.ensures) }
