@@ -32,7 +32,7 @@ pub fn move_side(part: &mut [u8; 128], side: &Devices, p: u8, q: u8)
 {
     // Each part is set by its device: a proof knows nothing of what a loop over `part.iter_mut().zip(..)` has written.
     for (d, on) in side.flags().iter().enumerate() {
-        // Stored where it stays, too: parts are then set many at a time, and the close of a plan of few cables takes a quarter less.
+        // Stored where it stays, too: parts are then set many at a time, which the close of a plan of few cables feels.
         part[d] = if *on & (part[d] == p) { q } else { part[d] };
     }
 }
